@@ -2,7 +2,7 @@
 ghost use mathlib.Core.Path.{_≡_};
 ghost use mathlib.Core.Bool.{cond};
 ghost use mathlib.Core.List.{_∷_, []};
-ghost use Prim.Native.Nat.{_-_, _<_};
+ghost use Prim.Native.Nat.{_-_, _<_, _≤_};
 ghost use lib.ListN.{length, take, getD, set};
 ghost use Rattle.std.specs.Holes.{inserted};
 ghost use Rattle.std.specs.Results.{isOk};
@@ -13,6 +13,7 @@ ghost use Rattle.rows.specs.Row.{row-list};
 use crate::row::Row;
 use crate::search::find;
 use crate::search::place_of;
+use tables::stays;
 use words::Ending;
 use words::Refusal;
 use words::Status;
@@ -122,6 +123,35 @@ impl Row {
         self.replace(at, version);
         Ok(0)
     }
+
+    // Removes every version that does not stay at the stamp, and answers how many.
+    pub(crate) fn cut(&mut self, stamp: u64) -> u64
+        ensures answer { λ r. ⌜ r ≡ cut-count stamp (row-list (now (self .entry))) ⌝ }
+        ensures after { λ _. ⌜ row-list (now (self .exit)) ≡ kept stamp (row-list (now (self .entry))) ⌝ }
+    {
+        let before = self.len;
+        let after = keep(&mut self.versions, before, stamp);
+        self.len = after;
+        (before - after) as u64
+    }
+}
+
+// Moves those of the first `len` versions that stay at the stamp to the front, in their order, and
+// answers how many they are.
+fn keep(versions: &mut [Version], len: usize, stamp: u64) -> usize
+    requires { ⌜ len ≤ length (now versions) ⌝ }
+    ensures front { λ r. ⌜ take r (now (versions .exit)) ≡ kept stamp (take len (now (versions .entry))) ⌝ }
+    ensures bound { λ r. ⌜ r ≤ len ⌝ }
+{
+    let mut end = 0;
+    for i in 0..len {
+        let version = versions[i];
+        if stays(&version, stamp) {
+            versions[end] = version;
+            end += 1;
+        }
+    }
+    end
 }
 
 // Puts x in at the position and moves what stood from there on up by one; the last falls out.

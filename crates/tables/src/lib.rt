@@ -2,6 +2,8 @@
 //
 // A table keeps, for each of its cells, the versions of that cell, newest first. Everything
 // above is generic over the trait and is proved once, against what the trait says a table means.
+mod cut;
 mod table;
 
+pub use cut::stays;
 pub use table::VersionTable;
