@@ -1,2 +1,4 @@
 pub mod Search
 pub mod Row
+pub mod Places
+pub mod Rows

@@ -5,4 +5,7 @@
 mod change;
 mod row;
 mod search;
+mod table;
 
+pub use table::RowTable;
+pub use table::RowVersionTable;
