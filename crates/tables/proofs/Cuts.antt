@@ -1,4 +1,5 @@
--- What a cut leaves. Every proof about a cut uses these four facts and does not look at the test.
+-- What a cut leaves: order, no version at or above the stamp lost, the answer is the length lost.
+-- Every other proof about a cut uses these facts and does not look at the test.
 use mathlib.Core.Path.{_≡_, refl}
 use mathlib.Core.List.{List, [], _∷_}
 use mathlib.Core.Bool.{Bool, true, cond}
@@ -28,8 +29,15 @@ filter-keeps test chains p n (v ∷ vs) h =
 pub cut-keeps-sinking : (s : ℕ) (vs : List Version) → sinks vs ≡ true → sinks (kept s vs) ≡ true
 cut-keeps-sinking s vs h = filter-keeps leb (λ a b c p q. grind (arith, tells)) (stays s) _ vs h
 
+ordered-falls : (n : ℕ) (vs : List Version) → ordered ltb n vs ≡ true → falls vs ≡ true
+ordered-falls n [] h = refl
+ordered-falls n (v ∷ vs) h = grind (arith, tells)
+
 pub cut-keeps-falling : (s : ℕ) (vs : List Version) → falls vs ≡ true → falls (kept s vs) ≡ true
-cut-keeps-falling s vs h = filter-keeps ltb (λ a b c p q. grind (arith, tells)) (stays s) _ vs h
+cut-keeps-falling s [] h = refl
+cut-keeps-falling s (v ∷ vs) h =
+    let below = filter-keeps ltb (λ a b c p q. grind (arith, tells)) (stays s) (v .write) vs h in
+    grind (arith, below, ordered-falls (v .write) (kept s vs))
 
 filter-length : (p : Version → Bool) (vs : List Version) → length (kept-by p vs) ≤ length vs
 filter-length p [] = omega arith

@@ -1,3 +1,4 @@
 pub mod Order
 pub mod Cuts
 pub mod Lengths
+pub mod Reaches

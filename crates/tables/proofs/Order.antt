@@ -1,16 +1,13 @@
 -- The order of write stamps along a list, and that insert, raise, mark and cut keep it.
 use mathlib.Core.Path.{_≡_, refl}
 use mathlib.Core.List.{List, [], _∷_}
-use mathlib.Core.Bool.{Bool, true, false, cond}
-use mathlib.Core.Logic.{⊎-elim}
+use mathlib.Core.Bool.{Bool, true, false}
 use Prim.Native.Nat.{ℕ, _≤_, _<_}
 use native.Mathlib.Omega.{arith}
 use lib.Dec.{leb, ltb}
-use Rattle.std.specs.shelf.Lists.{kept-by}
-use Rattle.std.proofs.shelf.Tests.{cases-bool, and-parts, and-from}
 use Rattle.std.proofs.shelf.Ways.{tells}
 use Rattle.words.specs.declared.version.Version.{Version}
-use Rattle.tables.specs.Versions.{ordered, holds, with-version, at-stamp}
+use Rattle.tables.specs.Versions.{ordered, falls, holds, with-version, at-stamp}
 
 -- a change of one version that keeps its stamp keeps the order
 pub ordered-at-stamp : (test : ℕ → ℕ → Bool) (s : ℕ) (f : Version → Version) → ((v : Version) → f v .write ≡ v .write) → (n : ℕ) (vs : List Version) → ordered test n (at-stamp s f vs) ≡ ordered test n vs
@@ -23,6 +20,14 @@ sinks-with n v [] le h = grind (arith, tells)
 sinks-with n v (w ∷ ws) le h = grind (arith, tells, sinks-with (w .write) v ws)
 
 -- insert, where the stamp is not there yet
-pub falls-with : (n : ℕ) (v : Version) (vs : List Version) → v .write < n → holds (v .write) vs ≡ false → ordered ltb n vs ≡ true → ordered ltb n (with-version v vs) ≡ true
-falls-with n v [] lt no′ h = grind (arith, tells)
-falls-with n v (w ∷ ws) lt no′ h = grind (arith, tells, falls-with (w .write) v ws)
+below-with : (n : ℕ) (v : Version) (vs : List Version) → v .write < n → holds (v .write) vs ≡ false → ordered ltb n vs ≡ true → ordered ltb n (with-version v vs) ≡ true
+below-with n v [] lt new h = grind (arith, tells)
+below-with n v (w ∷ ws) lt new h = grind (arith, tells, below-with (w .write) v ws)
+
+pub falls-with : (v : Version) (vs : List Version) → holds (v .write) vs ≡ false → falls vs ≡ true → falls (with-version v vs) ≡ true
+falls-with v [] new h = refl
+falls-with v (w ∷ ws) new h = grind (arith, tells, below-with (w .write) v ws)
+
+pub falls-at-stamp : (s : ℕ) (f : Version → Version) → ((v : Version) → f v .write ≡ v .write) → (vs : List Version) → falls vs ≡ true → falls (at-stamp s f vs) ≡ true
+falls-at-stamp s f same [] h = refl
+falls-at-stamp s f same (v ∷ vs) h = grind (arith, tells, same v, ordered-at-stamp ltb s f same (v .write) vs)

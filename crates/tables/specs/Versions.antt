@@ -35,9 +35,10 @@ absent = record { write = 0; read = 0; status = Pending; value = 0 }
 abbrev pub sinks : List Version → Bool
 sinks vs = ordered leb top vs
 
--- each write stamp is below the one before it, and the first fits 64 bits
+-- each write stamp is below the one before it
 abbrev pub falls : List Version → Bool
-falls vs = ordered ltb (2 ^ 64) vs
+falls [] = true
+falls (v ∷ vs) = ordered ltb (v .write) vs
 
 -- whether some version is stamped s
 abbrev pub holds : ℕ → List Version → Bool
