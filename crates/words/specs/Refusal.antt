@@ -1,5 +1,7 @@
 -- The refusals, each by its number and its detail.
+use mathlib.Core.List.{List}
 use Prim.Native.Nat.{ℕ}
+use lib.Chars.{codes}
 use Rattle.words.specs.declared.refusal.Refusal.{Refusal}
 use Rattle.words.specs.declared.refusal.Refusal.the-variants.{NoWorker, NoCell, OutOfTurn, SetFull, ClockSpent, Wait, StampTaken, NoPlace, NoVersion, Changed, ReadLater, BadTarget, BadLine}
 
@@ -32,3 +34,19 @@ detail Changed = 0
 detail ReadLater = 0
 detail BadTarget = 0
 detail (BadLine p) = p
+
+-- the name under which it is shown
+abbrev pub name : Refusal → List ℕ
+name NoWorker = codes "NO WORKER"
+name NoCell = codes "NO CELL"
+name OutOfTurn = codes "OUT OF TURN"
+name SetFull = codes "SET FULL"
+name ClockSpent = codes "CLOCK SPENT"
+name (Wait d) = codes "WAIT"
+name StampTaken = codes "STAMP TAKEN"
+name NoPlace = codes "NO PLACE"
+name NoVersion = codes "NO VERSION"
+name Changed = codes "CHANGED"
+name ReadLater = codes "READ LATER"
+name BadTarget = codes "BAD TARGET"
+name (BadLine d) = codes "BAD LINE"

@@ -1,7 +1,7 @@
 // Why a call is turned down. One list for the whole product, each case with its number; the
 // detail of a refusal is 0 but for `Wait` and `BadLine`.
 ghost use mathlib.Core.Path.{_≡_};
-ghost use Rattle.words.specs.Refusal.{number, detail};
+ghost use Rattle.words.specs.Refusal.{number, detail, name};
 
 #[derive(Clone, Copy, PartialEq, Debug)]
 pub enum Refusal {
@@ -61,6 +61,26 @@ impl Refusal {
             Refusal::Wait(stamp) => stamp,
             Refusal::BadLine(place) => place,
             _ => 0,
+        }
+    }
+
+    pub fn name(self) -> &'static str
+        ensures { λ r. ⌜ now r ≡ name self ⌝ }
+    {
+        match self {
+            Refusal::NoWorker => "NO WORKER",
+            Refusal::NoCell => "NO CELL",
+            Refusal::OutOfTurn => "OUT OF TURN",
+            Refusal::SetFull => "SET FULL",
+            Refusal::ClockSpent => "CLOCK SPENT",
+            Refusal::Wait(_) => "WAIT",
+            Refusal::StampTaken => "STAMP TAKEN",
+            Refusal::NoPlace => "NO PLACE",
+            Refusal::NoVersion => "NO VERSION",
+            Refusal::Changed => "CHANGED",
+            Refusal::ReadLater => "READ LATER",
+            Refusal::BadTarget => "BAD TARGET",
+            Refusal::BadLine(_) => "BAD LINE",
         }
     }
 }

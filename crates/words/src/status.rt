@@ -1,6 +1,6 @@
 // Where a version stands: its writer has not decided yet, has committed it, or has aborted it.
 ghost use mathlib.Core.Path.{_≡_};
-ghost use Rattle.words.specs.Status.{number, pending, ended};
+ghost use Rattle.words.specs.Status.{number, name, pending, ended};
 
 #[derive(Clone, Copy, PartialEq, Debug)]
 pub enum Status {
@@ -25,6 +25,16 @@ impl Status {
             Status::Pending => 0,
             Status::Committed => 1,
             Status::Aborted => 2,
+        }
+    }
+
+    pub fn name(self) -> &'static str
+        ensures { λ r. ⌜ now r ≡ name self ⌝ }
+    {
+        match self {
+            Status::Pending => "pending",
+            Status::Committed => "committed",
+            Status::Aborted => "aborted",
         }
     }
 
