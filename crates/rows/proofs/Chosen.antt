@@ -4,7 +4,7 @@ use mathlib.Core.Path.{_≡_, refl, sym, ap, subst, subst⁻¹, fun-ext, _∙_}
 use mathlib.Core.Bool.{true, false, cond}
 use mathlib.Core.List.{List, [], _∷_, map}
 use mathlib.Core.Logic.{⊎-elim}
-use Prim.Native.Nat.{ℕ, _-_, _^_, _≤_, _<_}
+use Prim.Native.Nat.{ℕ, zero, suc, _-_, _^_, _≤_, _<_}
 use native.Mathlib.Omega.{arith}
 use lib.ListN.{length, getD, set, replicate}
 use Rattle.std.specs.Results.{Cases, isOk}
@@ -22,7 +22,7 @@ use Rattle.tables.proofs.Lengths.{put-here, put-other, put-same}
 use Rattle.rows.specs.declared.row.Row.{Row}
 use Rattle.rows.specs.Row.{row-list}
 use Rattle.rows.specs.Rows.{row-lists}
-use Rattle.rows.specs.Places.{eight-places}
+use Rattle.rows.specs.Places.{eight-places, EightEach}
 use Rattle.rows.proofs.Eight.{eight-inserted, eight-altered, eight-cut}
 
 -- what the table means, by its rows
@@ -101,6 +101,15 @@ row-clear rows r e =
       versions = lists;
       free = λ c l. omega (arith, ap (λ (f : ℕ → List Version). length (f c)) lists, ap (λ b. length (cond b (first-version ∷ []) [])) (lt-ltb c 128 l));
     }
+
+-- every row is short, so its free places are just what its versions leave
+pub rows-exact : (rows : List Row) → EightEach 128 (mean rows)
+rows-exact rows = record { cells = refl; full = λ c _. omega (arith, short rows c) }
+  where
+    short : (rows : List Row) (c : ℕ) → length (row-lists rows c) ≤ 8
+    short [] c = omega arith
+    short (r ∷ rs) zero = row-short r
+    short (r ∷ rs) (suc c) = short rs c
 
 -- a number that fits 64 bits is not held back
 pub fits : (m n : ℕ) → m < 2 ^ 64 → m ≡ n → m ≡ held n

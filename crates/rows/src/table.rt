@@ -1,7 +1,7 @@
 // The row table, as a version table.
 ghost use mathlib.Core.Path.{_≡_};
 ghost use Rattle.tables.specs.Table.{cleared};
-ghost use Rattle.rows.specs.Places.{eight-places};
+ghost use Rattle.rows.specs.Places.{eight-places, EightEach};
 ghost use Rattle.rows.specs.Rows.{row-lists, rows-sound};
 use crate::row::Row;
 use tables::VersionTable;
@@ -27,6 +27,14 @@ impl RowTable {
             rows: [Row::first(); 128],
         }
     }
+
+    // How many places a cell has, taken and free together.
+    pub fn places(&self) -> u64
+        ensures answer { λ r. ⌜ r ≡ 8 ⌝ }
+        ensures exact { λ _. ⌜ EightEach 128 (eight-places 128 (row-lists (now (self .entry) .rows))) ⌝ }
+    {
+        PLACES
+    }
 }
 
 pub impl VersionTable for RowTable as RowVersionTable {
@@ -35,7 +43,8 @@ pub impl VersionTable for RowTable as RowVersionTable {
     ghost sound = { λ t. rows-sound (t .rows) };
 
     fn clear(&mut self) -> u64 {
-        self.rows = [Row::first(); 128];
+        let first = Row::first();
+        self.rows = [first; 128];
         0
     }
 

@@ -10,4 +10,4 @@ use Rattle.rows.proofs.Chosen.{rows-cleared, row-clear}
 use Rattle.rows.proofs.table.RowVersionTable.clear.Needs as need
 
 pub returns : need.returns
-returns c = record { answer = refl; after = row-clear _ (c .first-self .result) (c .first-self .ensures) }
+returns c = record { answer = refl; after = row-clear _ (c .first-first .result) (c .first-first .ensures) }
