@@ -14,7 +14,12 @@ use tables::perform;
 
 // The whole scan on a cleared table; a cell of it is filled by `inserts` calls, of which the last
 // finds no place.
-pub fn play_scan<T: VersionTable>(rt: &LibcRuntime, name: &str, table: &mut T, inserts: u32) -> io::Result<()> {
+pub fn play_scan<T: VersionTable>(
+    rt: &LibcRuntime,
+    name: &str,
+    table: &mut T,
+    inserts: u32,
+) -> io::Result<()> {
     println!(rt, "On {name}")?;
     play(rt, table, "Readings", &READINGS)?;
     play(rt, table, "Upkeep", &UPKEEP)?;
@@ -26,7 +31,12 @@ pub fn play_scan<T: VersionTable>(rt: &LibcRuntime, name: &str, table: &mut T, i
     play(rt, table, "Clearing", &CLEARING)
 }
 
-fn play<T: VersionTable>(rt: &LibcRuntime, table: &mut T, title: &str, calls: &[TableCall]) -> io::Result<()> {
+fn play<T: VersionTable>(
+    rt: &LibcRuntime,
+    table: &mut T,
+    title: &str,
+    calls: &[TableCall],
+) -> io::Result<()> {
     println!(rt, "  {title}")?;
     for call in calls {
         play_call(rt, table, *call)?;

@@ -13,9 +13,19 @@ pub fn print_call(rt: &LibcRuntime, call: TableCall) -> io::Result<()> {
         TableCall::FreePlaces { cell } => print!(rt, "free places of cell {cell}"),
         TableCall::Length { cell } => print!(rt, "length of cell {cell}"),
         TableCall::Version { cell, at } => print!(rt, "version of cell {cell} at {at}"),
-        TableCall::Insert { cell, stamp, value } => print!(rt, "insert in cell {cell}, stamp {stamp}, value {value}"),
-        TableCall::Raise { cell, stamp, to } => print!(rt, "raise in cell {cell}, stamp {stamp}, to {to}"),
-        TableCall::Mark { cell, stamp, ending } => {
+        TableCall::Insert { cell, stamp, value } => print!(
+            rt,
+            "insert in cell {cell}, stamp {stamp}, value {value}"
+        ),
+        TableCall::Raise { cell, stamp, to } => print!(
+            rt,
+            "raise in cell {cell}, stamp {stamp}, to {to}"
+        ),
+        TableCall::Mark {
+            cell,
+            stamp,
+            ending,
+        } => {
             let status = ending.status().name();
             print!(rt, "mark in cell {cell}, stamp {stamp}, {status}")
         }
@@ -41,7 +51,12 @@ pub fn print_answer(rt: &LibcRuntime, result: Result<Answer, Refusal>) -> io::Re
 }
 
 fn print_version(rt: &LibcRuntime, version: Version) -> io::Result<()> {
-    let Version { write, read, status, value } = version;
+    let Version {
+        write,
+        read,
+        status,
+        value,
+    } = version;
     let status = status.name();
     print!(rt, "[{write}: {value} {status}, read {read}]")
 }

@@ -1,7 +1,7 @@
 -- A call on one row is that call on the table: the answer of the row is the table's, and the
 -- other rows stay.
 use mathlib.Core.Path.{_≡_, refl, sym, ap, subst, subst⁻¹, fun-ext, _∙_}
-use mathlib.Core.Bool.{true, false, cond}
+use mathlib.Core.Bool.{true, cond}
 use mathlib.Core.List.{List, [], _∷_, map}
 use mathlib.Core.Logic.{⊎-elim}
 use Prim.Native.Nat.{ℕ, zero, suc, _-_, _^_, _≤_, _<_}
@@ -40,13 +40,13 @@ module _ (rows : List Row) (c : ℕ) (d : Row) (within : c < length rows) where
   set-row : (r : Row) → row-lists (set rows c r) ≡ put (row-lists rows) c (row-list r)
   set-row r =
       fun-ext (λ q.
-        ap (λ (l : List (List Version)). getD l q []) (map-set row-list rows c r) ∙
-        ⊎-elim
-          (λ (e : q ≡ c).
-            subst (λ (k : ℕ). getD (set (map row-list rows) c (row-list r)) k [] ≡ put (row-lists rows) c (row-list r) k) (sym e)
-              (getD-set-same (map row-list rows) c (row-list r) [] (omega (arith, length-map rows row-list)) ∙ sym (put-here (row-lists rows) c (row-list r))))
-          (λ ne. getD-set-other (map row-list rows) c q (row-list r) [] ne ∙ sym (put-other (row-lists rows) c (row-list r) q ne))
-          (cases-eq q c))
+      ap (λ (l : List (List Version)). getD l q []) (map-set row-list rows c r) ∙
+      ⊎-elim
+      (λ (e : q ≡ c).
+      subst (λ (k : ℕ). getD (set (map row-list rows) c (row-list r)) k [] ≡ put (row-lists rows) c (row-list r) k) (sym e)
+      (getD-set-same (map row-list rows) c (row-list r) [] (omega (arith, length-map rows row-list)) ∙ sym (put-here (row-lists rows) c (row-list r))))
+      (λ ne. getD-set-other (map row-list rows) c q (row-list r) [] ne ∙ sym (put-other (row-lists rows) c (row-list r) q ne))
+      (cases-eq q c))
 
   -- what is said of the row's list is said of the cell's
   said : (P : List Version → Type 0) → P (row-list (getD rows c d)) → P (row-lists rows c)
@@ -66,8 +66,8 @@ module _ (rows : List Row) (c : ℕ) (d : Row) (within : c < length rows) where
     pub row-inserts : (s x : ℕ) (r : Row) (res : Result ℕ Refusal) → told res ≡ insert-in (row-list (getD rows c d)) (8 - length (row-list (getD rows c d))) s → row-list r ≡ cond (isOk res) (with-version (new-version s x) (row-list (getD rows c d))) (row-list (getD rows c d)) → Cases res (λ _. Inserted (mean rows) (mean (set rows c r)) c s x) (λ _. mean (set rows c r) ≡ mean rows)
     row-inserts s x r res a e =
         row-changes (λ u. Inserted (mean rows) u c s x) (with-version (new-version s x) (row-lists rows c)) r res
-          (said (λ (vs : List Version). row-list r ≡ cond (isOk res) (with-version (new-version s x) vs) vs) e)
-          (λ ok. eight-inserted 128 (row-lists rows) c s x (room res ok (said (λ (vs : List Version). told res ≡ insert-in vs (8 - length vs) s) a)))
+        (said (λ (vs : List Version). row-list r ≡ cond (isOk res) (with-version (new-version s x) vs) vs) e)
+        (λ ok. eight-inserted 128 (row-lists rows) c s x (room res ok (said (λ (vs : List Version). told res ≡ insert-in vs (8 - length vs) s) a)))
       where
         room : (o : Result ℕ Refusal) → isOk o ≡ true → told o ≡ insert-in (row-lists rows c) (8 - length (row-lists rows c)) s → length (row-lists rows c) < 8
         room o ok t = grind (arith, tells)
@@ -75,23 +75,23 @@ module _ (rows : List Row) (c : ℕ) (d : Row) (within : c < length rows) where
     pub row-alters : (s : ℕ) (f : Version → Version) (r : Row) (res : Result ℕ Refusal) → row-list r ≡ cond (isOk res) (at-stamp s f (row-list (getD rows c d))) (row-list (getD rows c d)) → Cases res (λ _. Altered (mean rows) (mean (set rows c r)) c s f) (λ _. mean (set rows c r) ≡ mean rows)
     row-alters s f r res e =
         row-changes (λ u. Altered (mean rows) u c s f) (at-stamp s f (row-lists rows c)) r res
-          (said (λ (vs : List Version). row-list r ≡ cond (isOk res) (at-stamp s f vs) vs) e)
-          (λ _. eight-altered 128 (row-lists rows) c s f)
+        (said (λ (vs : List Version). row-list r ≡ cond (isOk res) (at-stamp s f vs) vs) e)
+        (λ _. eight-altered 128 (row-lists rows) c s f)
 
     pub row-cuts : (s n : ℕ) (r : Row) → row-list r ≡ kept s (row-list (getD rows c d)) → Cut (mean rows) (mean (set rows c r)) c s
     row-cuts s n r e =
         row-changes (λ u. Cut (mean rows) u c s) (kept s (row-lists rows c)) r (Ok n)
-          (said (λ (vs : List Version). row-list r ≡ kept s vs) e)
-          (λ _. eight-cut 128 (row-lists rows) c s (said (λ (vs : List Version). length vs ≤ 8) (row-short (getD rows c d))))
+        (said (λ (vs : List Version). row-list r ≡ kept s vs) e)
+        (λ _. eight-cut 128 (row-lists rows) c s (said (λ (vs : List Version). length vs ≤ 8) (row-short (getD rows c d))))
 
 -- 128 rows of one first version each
 pub rows-cleared : (r : Row) → row-list r ≡ first-version ∷ [] → row-lists (replicate 128 r) ≡ cleared 128
 rows-cleared r e =
     fun-ext (λ c.
-      ⊎-elim
-        (λ (l : c < 128). getD-map row-list (replicate 128 r) c r [] (omega (arith, length-replicate 128 r)) ∙ ap row-list (getD-replicate 128 c r r l) ∙ e ∙ sym (ap (λ b. cond b (first-version ∷ []) []) (lt-ltb c 128 l)))
-        (λ l. getD-past (map row-list (replicate 128 r)) c [] (omega (arith, length-map (replicate 128 r) row-list, length-replicate 128 r)) ∙ sym (ap (λ b. cond b (first-version ∷ []) []) (le-ltb c 128 l)))
-        (cases-lt c 128))
+    ⊎-elim
+    (λ (l : c < 128). getD-map row-list (replicate 128 r) c r [] (omega (arith, length-replicate 128 r)) ∙ ap row-list (getD-replicate 128 c r r l) ∙ e ∙ sym (ap (λ b. cond b (first-version ∷ []) []) (lt-ltb c 128 l)))
+    (λ l. getD-past (map row-list (replicate 128 r)) c [] (omega (arith, length-map (replicate 128 r) row-list, length-replicate 128 r)) ∙ sym (ap (λ b. cond b (first-version ∷ []) []) (le-ltb c 128 l)))
+    (cases-lt c 128))
 
 pub row-clear : (rows : List Row) (r : Row) → row-list r ≡ first-version ∷ [] → Cleared (mean rows) (mean (replicate 128 r))
 row-clear rows r e =

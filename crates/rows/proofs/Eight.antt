@@ -1,14 +1,14 @@
 -- What one call makes of n cells of 8 places each.
 use mathlib.Core.Path.{_≡_, refl, sym, ap, subst, _∙_}
 use mathlib.Core.Logic.{⊎-elim}
-use Prim.Native.Nat.{ℕ, _+_, _-_, _≤_, _<_}
+use Prim.Native.Nat.{ℕ, _-_, _≤_, _<_}
 use mathlib.Core.List.{List}
 use native.Mathlib.Omega.{arith}
 use lib.ListN.{length}
 use Rattle.std.proofs.shelf.Tests.{cases-eq}
 use Rattle.words.specs.declared.version.Version.{Version}
 use Rattle.tables.specs.Versions.{new-version, with-version, at-stamp, kept, cut-count}
-use Rattle.tables.specs.Table.{Table, Only, Inserted, Altered, Cut, put}
+use Rattle.tables.specs.Table.{Only, Inserted, Altered, Cut, put}
 use Rattle.tables.proofs.Cuts.{cut-counts}
 use Rattle.tables.proofs.Lengths.{length-with, length-at-stamp, put-here, put-other}
 use Rattle.rows.specs.Places.{eight-places}
@@ -50,8 +50,8 @@ module _ (n : ℕ) (lists : ℕ → List Version) (c : ℕ) where
       record {
         only = only vs;
         free = λ q.
-          ⊎-elim
-          (λ (e : q ≡ c). subst (λ (k : ℕ). eight-places n (put lists c vs) .free k ≡ eight-places n lists .free k) (sym e) (free-here vs ∙ ap (λ (l : ℕ). 8 - l) (length-at-stamp s f (lists c))))
-          (free-other vs q)
-          (cases-eq q c);
+            ⊎-elim
+            (λ (e : q ≡ c). subst (λ (k : ℕ). eight-places n (put lists c vs) .free k ≡ eight-places n lists .free k) (sym e) (free-here vs ∙ ap (λ (l : ℕ). 8 - l) (length-at-stamp s f (lists c))))
+            (free-other vs q)
+            (cases-eq q c);
       }

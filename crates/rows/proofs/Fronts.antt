@@ -1,11 +1,11 @@
 -- The list of a row is the front of its array: what a write to the array makes of it.
 use mathlib.Core.Path.{_≡_, refl, sym, ap, _∙_}
-use mathlib.Core.List.{List, [], _∷_, _++_}
-use mathlib.Core.Bool.{Bool, true}
+use mathlib.Core.List.{List, [], _∷_}
+use mathlib.Core.Bool.{Bool}
 use Prim.Native.Nat.{ℕ, zero, suc, _+_, _≤_, _<_}
 use native.Mathlib.Omega.{arith}
 use borrow.Author.Needs.{needs}
-use lib.ListN.{length, take, drop, getD, set}
+use lib.ListN.{length, take, getD, set}
 use Rattle.std.specs.Holes.{inserted}
 use Rattle.std.proofs.shelf.Lists.{length-take-le, same-lists, places, getD-set-same}
 use Rattle.std.proofs.shelf.Tests.{cases-eq}

@@ -10,6 +10,7 @@ use words::Refusal;
 use words::Version;
 
 const CELLS: usize = 128;
+
 const PLACES: u64 = 8;
 
 // 128 cells of 8 places.

@@ -1,7 +1,6 @@
 -- How long a list is after each call, and what stands where after a change of one cell.
 use mathlib.Core.Path.{_≡_, refl, fun-ext}
 use mathlib.Core.List.{List, [], _∷_}
-use mathlib.Core.Bool.{true}
 use Prim.Native.Nat.{ℕ, _+_}
 use native.Mathlib.Omega.{arith}
 use lib.Dec.{eqb}

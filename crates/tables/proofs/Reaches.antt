@@ -1,11 +1,10 @@
 -- From clear on, whatever calls are made, write stamps fall strictly along every list.
 use mathlib.Core.Path.{_≡_, refl, sym, ap, subst, subst⁻¹, _∙_}
-use mathlib.Core.List.{List, [], _∷_}
-use mathlib.Core.Bool.{Bool, true, false, cond}
+use mathlib.Core.List.{List}
+use mathlib.Core.Bool.{true, false}
 use mathlib.Core.Logic.{⊎-elim}
 use Prim.Native.Nat.{ℕ}
 use native.Mathlib.Omega.{arith}
-use lib.Dec.{eqb, ltb}
 use Rattle.std.specs.Results.{Cases}
 use Rattle.std.specs.declared.result.Result.{Result}
 use Rattle.std.specs.declared.result.Result.the-variants.{Ok, Err}
@@ -17,8 +16,8 @@ use Rattle.words.specs.declared.version.Version.{Version}
 use Rattle.tables.specs.declared.call.TableCall.{TableCall}
 use Rattle.tables.specs.declared.call.TableCall.the-variants.{Clear, Cells, FreePlaces, Length, Version as VersionAt, Insert, Raise, Mark, Cut as CutAt}
 use Rattle.tables.specs.declared.call.Answer.{Answer}
-use Rattle.tables.specs.Versions.{first-version, new-version, holds, falls, with-version, at-stamp, raised, marked, kept}
-use Rattle.tables.specs.Table.{Table, Cleared, Only, Inserted, Altered, Cut, put, cleared, insert-answer, raise-answer, mark-answer, cut-answer}
+use Rattle.tables.specs.Versions.{new-version, holds, falls, at-stamp, raised, marked}
+use Rattle.tables.specs.Table.{Table, Cleared, Only, Inserted, Altered, Cut, put, insert-answer, raise-answer, mark-answer, cut-answer}
 use Rattle.tables.specs.Calls.{call-answer, Upon, Step, Reached, start, next, Strict}
 use Rattle.tables.proofs.Order.{falls-with, falls-at-stamp}
 use Rattle.tables.proofs.Cuts.{cut-keeps-falling}
@@ -29,9 +28,9 @@ one-cell : {t u : Table} {c : ℕ} {vs : List Version} → Only t u c vs → fal
 one-cell {t} {u} {c} {vs} only h strict q =
     ap (λ (f : ℕ → List Version). falls (f q)) (only .versions) ∙
     ⊎-elim
-      (λ (e : q ≡ c). subst⁻¹ (λ (k : ℕ). falls (put (t .versions) c vs k) ≡ true) e (ap falls (put-here (t .versions) c vs) ∙ h))
-      (λ ne. ap falls (put-other (t .versions) c vs q ne) ∙ strict q)
-      (cases-eq q c)
+    (λ (e : q ≡ c). subst⁻¹ (λ (k : ℕ). falls (put (t .versions) c vs k) ≡ true) e (ap falls (put-here (t .versions) c vs) ∙ h))
+    (λ ne. ap falls (put-other (t .versions) c vs q ne) ∙ strict q)
+    (cases-eq q c)
 
 -- by the way in which a call came out
 upon : (o : Outcome ℕ) (P Q R : Type 0) → Upon o P Q → ((a : ℕ) → o ≡ accepted a → P → R) → (Q → R) → R
@@ -56,20 +55,20 @@ step-strict t u (Length c) h strict = same-strict t u h strict
 step-strict t u (VersionAt c i) h strict = same-strict t u h strict
 step-strict t u (Insert c s x) h strict =
     upon (insert-answer t c s) (Inserted t u c s x) (u ≡ t) (Strict u) h
-      (λ a e done. one-cell (done .only) (falls-with (new-version s x) (t .versions c) (insert-new t c s a e) (strict c)) strict)
-      (λ e. same-strict t u e strict)
+    (λ a e done. one-cell (done .only) (falls-with (new-version s x) (t .versions c) (insert-new t c s a e) (strict c)) strict)
+    (λ e. same-strict t u e strict)
 step-strict t u (Raise c s r) h strict =
     upon (raise-answer t c s) (Altered t u c s (raised r)) (u ≡ t) (Strict u) h
-      (λ a e done. one-cell (done .only) (falls-at-stamp s (raised r) (λ v. refl) (t .versions c) (strict c)) strict)
-      (λ e. same-strict t u e strict)
+    (λ a e done. one-cell (done .only) (falls-at-stamp s (raised r) (λ v. refl) (t .versions c) (strict c)) strict)
+    (λ e. same-strict t u e strict)
 step-strict t u (Mark c s k) h strict =
     upon (mark-answer t c s) (Altered t u c s (marked k)) (u ≡ t) (Strict u) h
-      (λ a e done. one-cell (done .only) (falls-at-stamp s (marked k) (λ v. refl) (t .versions c) (strict c)) strict)
-      (λ e. same-strict t u e strict)
+    (λ a e done. one-cell (done .only) (falls-at-stamp s (marked k) (λ v. refl) (t .versions c) (strict c)) strict)
+    (λ e. same-strict t u e strict)
 step-strict t u (CutAt c s) h strict =
     upon (cut-answer t c s) (Cut t u c s) (u ≡ t) (Strict u) h
-      (λ a e done. one-cell (done .only) (cut-keeps-falling s (t .versions c) (strict c)) strict)
-      (λ e. same-strict t u e strict)
+    (λ a e done. one-cell (done .only) (cut-keeps-falling s (t .versions c) (strict c)) strict)
+    (λ e. same-strict t u e strict)
 
 -- the promise
 pub reached-strict : {t : Table} → Reached t → Strict t

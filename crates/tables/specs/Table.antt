@@ -1,15 +1,14 @@
 -- What a version table means, and what each of its calls answers and leaves.
 use mathlib.Core.Path.{_≡_}
 use mathlib.Core.List.{List, [], _∷_}
-use mathlib.Core.Bool.{Bool, true, cond}
+use mathlib.Core.Bool.{true, cond}
 use Prim.Native.Nat.{ℕ, _+_, _≤_, _<_, min}
 use lib.Dec.{eqb, ltb}
 use lib.ListN.{length, getD}
 use Rattle.words.specs.Outcome.{Outcome, accepted, refuse}
 use Rattle.words.specs.declared.refusal.Refusal.the-variants.{NoCell, StampTaken, NoPlace, NoVersion}
-use Rattle.words.specs.declared.status.Ending.{Ending}
 use Rattle.words.specs.declared.version.Version.{Version}
-use Rattle.tables.specs.Versions.{top, absent, first-version, new-version, sinks, holds, holds-pending, with-version, at-stamp, raised, marked, kept, cut-count}
+use Rattle.tables.specs.Versions.{top, absent, first-version, new-version, sinks, holds, holds-pending, with-version, at-stamp, kept, cut-count}
 
 -- a fixed number of cells; for each cell its versions, newest first, and its free places
 pub record Table : Type 0 where

@@ -11,13 +11,35 @@ use words::Version;
 pub enum TableCall {
     Clear,
     Cells,
-    FreePlaces { cell: usize },
-    Length { cell: usize },
-    Version { cell: usize, at: usize },
-    Insert { cell: usize, stamp: u64, value: u64 },
-    Raise { cell: usize, stamp: u64, to: u64 },
-    Mark { cell: usize, stamp: u64, ending: Ending },
-    Cut { cell: usize, stamp: u64 },
+    FreePlaces {
+        cell: usize,
+    },
+    Length {
+        cell: usize,
+    },
+    Version {
+        cell: usize,
+        at: usize,
+    },
+    Insert {
+        cell: usize,
+        stamp: u64,
+        value: u64,
+    },
+    Raise {
+        cell: usize,
+        stamp: u64,
+        to: u64,
+    },
+    Mark {
+        cell: usize,
+        stamp: u64,
+        ending: Ending,
+    },
+    Cut {
+        cell: usize,
+        stamp: u64,
+    },
 }
 
 // What an accepted call answers: a number, or a version where one was asked for.
@@ -44,7 +66,11 @@ pub fn perform<T: VersionTable>(table: &mut T, call: TableCall) -> Result<Answer
         },
         TableCall::Insert { cell, stamp, value } => number(table.insert(cell, stamp, value)),
         TableCall::Raise { cell, stamp, to } => number(table.raise(cell, stamp, to)),
-        TableCall::Mark { cell, stamp, ending } => number(table.mark(cell, stamp, ending)),
+        TableCall::Mark {
+            cell,
+            stamp,
+            ending,
+        } => number(table.mark(cell, stamp, ending)),
         TableCall::Cut { cell, stamp } => number(table.cut(cell, stamp)),
     }
 }

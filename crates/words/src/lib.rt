@@ -7,6 +7,10 @@ mod status;
 mod version;
 
 pub use refusal::Refusal;
+pub use refusal::RefusalDebug;
+pub use refusal::RefusalPartialEq;
 pub use status::Ending;
 pub use status::Status;
 pub use version::Version;
+pub use version::VersionDebug;
+pub use version::VersionPartialEq;

@@ -1,4 +1,4 @@
-use mathlib.Core.Path.{_≡_, sym}
+use mathlib.Core.Path.{sym}
 use Prim.Native.Nat.{_<_}
 use native.Mathlib.Omega.{arith}
 use lib.ListN.{length, getD}
@@ -14,6 +14,7 @@ loop-i-again c =
     let i = c .loop-i .i in
     let l : i < length vs = omega arith in
     let read = getD-default vs i absent (getD vs i absent) l in
-    elim (c .if-stays .came)
-    [ then-stays w ↦ rw (w .versions-is, w .end-is) (keeping-more-set (c .loop-i .inv) l (sym (w .if-stays .ensures tt)) read)
-    | else-stays w ↦ rw (w .versions-is, w .end-is) (keeping-more-no (c .loop-i .inv) l (sym (w .if-stays .ensures tt)) read) ]
+    elim (c .if-stays .came) [
+      | then-stays w ↦ rw (w .versions-is, w .end-is) (keeping-more-set (c .loop-i .inv) l (sym (w .if-stays .ensures tt)) read)
+      | else-stays w ↦ rw (w .versions-is, w .end-is) (keeping-more-no (c .loop-i .inv) l (sym (w .if-stays .ensures tt)) read)
+    ]

@@ -1,0 +1,4 @@
+// Examples of what tables answer, each taken from the rules and not from a run. Every fact here is
+// also a consequence of a contract; the tests show that the compiled code does it.
+#[cfg(test)]
+mod row_table;
