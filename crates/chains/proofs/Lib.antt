@@ -1,0 +1,9 @@
+pub mod Sums
+pub mod Paths
+pub mod Keeps
+pub mod Moves
+pub mod Changes
+pub mod Takes
+pub mod Gives
+pub mod Rewrites
+pub mod Walks

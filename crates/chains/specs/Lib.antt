@@ -1,0 +1,4 @@
+pub mod Chain
+pub mod Store
+pub mod Kept
+pub mod Walk
