@@ -7,3 +7,5 @@ pub mod Takes
 pub mod Gives
 pub mod Rewrites
 pub mod Walks
+pub mod Inserts
+pub mod Alters

@@ -13,7 +13,7 @@ use Rattle.words.specs.declared.version.Version.{Version}
 use Rattle.tables.specs.Versions.{sinks}
 use Rattle.chains.specs.declared.record.Record.{Record}
 use Rattle.chains.specs.Chain.{blank, next-of, version-of, along}
-use Rattle.chains.specs.Store.{Store, link, path-of}
+use Rattle.chains.specs.Store.{Store, link, path-of, rewrite}
 use Rattle.chains.specs.Kept.{count, Kept}
 use Rattle.chains.proofs.Sums.{count-append, count-first}
 use Rattle.chains.proofs.Paths.{Led, Linked, versions-frame}
@@ -26,10 +26,6 @@ led-same u rs k r l m [] in′ e h = h
 led-same u rs k r l m (j ∷ p) in′ e h =
     let same : next-of (set rs k r) j ≡ next-of rs j = ⊎-elim (λ (z : j ≡ k). subst (λ (i : ℕ). next-of (set rs k r) i ≡ next-of rs i) (sym z) (ap (λ (x : Record). x .next) (getD-set-same rs k r blank in′) ∙ e)) (λ ne. ap (λ (x : Record). x .next) (getD-set-other rs k j r blank ne)) (cases-eq j k) in
     (h .0, h .1, subst (λ (z : Option ℕ). Led u (set rs k r) z p m) (sym same) (led-same u rs k r (next-of rs j) m p in′ e (h .2)))
-
--- the store with the version at i rewritten
-abbrev pub rewrite : Store → ℕ → Version → Store
-rewrite s i v = record { heads = s .heads; records = set (s .records) i (record { version = v; next = next-of (s .records) i }); cells = s .cells; used = s .used; free = s .free; count = s .count }
 
 module _ (s : Store) (kept : Kept s) (c : ℕ) (in′ : c < s .cells) (p : List ℕ) (i : ℕ) (q : List ℕ) (split : path-of s c ≡ p ++ (i ∷ q)) (v : Version) where
   abbrev r : Record

@@ -1,8 +1,9 @@
 -- What a chained table means, by the memory lent to it.
+use mathlib.Core.Path.{_≡_}
 use mathlib.Core.List.{List, [], map}
 use mathlib.Core.Bool.{cond}
 use lib.Dec.{eqb, ltb}
-use lib.ListN.{getD, set}
+use lib.ListN.{getD, set, drop}
 use Prim.Native.Nat.{ℕ, _-_, min}
 use denote.Ref.{now}
 use Rattle.std.specs.declared.option.Option.{Option}
@@ -11,7 +12,7 @@ use Rattle.words.specs.declared.version.Version.{Version}
 use Rattle.tables.specs.Table.{Table}
 use Rattle.chains.specs.declared.record.Record.{Record}
 use Rattle.chains.specs.declared.links.Links.{Links}
-use Rattle.chains.specs.Chain.{version-of, path, along}
+use Rattle.chains.specs.Chain.{next-of, version-of, path, along}
 
 -- the lent memory as it stands: heads, records, how much of each is used, and the free records
 pub record Store : Type 0 where
@@ -31,6 +32,18 @@ store l =
       used = l .used;
       free = l .free;
       count = l .«free_count»;
+    }
+
+-- the version at i rewritten
+abbrev pub rewrite : Store → ℕ → Version → Store
+rewrite s i v =
+    record {
+      heads = s .heads;
+      records = set (s .records) i (record { version = v; next = next-of (s .records) i });
+      cells = s .cells;
+      used = s .used;
+      free = s .free;
+      count = s .count;
     }
 
 -- how many of v records are used
@@ -76,3 +89,10 @@ moved s c newer to x r fl n =
       free = fl;
       count = n;
     }
+
+-- what is lent and not used stays as it was
+pub record Unused (s s′ : Store) : Type 0 where
+  pub cells : s′ .cells ≡ s .cells
+  pub used : s′ .used ≡ s .used
+  pub heads : drop (s .cells) (s′ .heads) ≡ drop (s .cells) (s .heads)
+  pub records : drop (s .used) (s′ .records) ≡ drop (s .used) (s .records)

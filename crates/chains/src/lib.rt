@@ -2,6 +2,8 @@
 //
 // Free records are shared by all cells. A record stands in one chain at a time, that of a cell or
 // that of the free records; every call only relinks records.
+mod ask;
+mod change;
 mod links;
 mod record;
 mod walk;
