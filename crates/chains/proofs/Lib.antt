@@ -9,3 +9,4 @@ pub mod Rewrites
 pub mod Walks
 pub mod Inserts
 pub mod Alters
+pub mod Cutting

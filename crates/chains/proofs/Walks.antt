@@ -59,6 +59,11 @@ version-first v vs = grind (arith, tells)
 pub version-none : (n : ℕ) → version-in [] n ≡ refuse NoVersion
 version-none n = grind (arith, tells)
 
+-- the last position of a front with one more
+pub last-push : (p : List ℕ) (i : ℕ) (l : Option ℕ) → Some i ≡ last-of l (p ++ (i ∷ []))
+last-push [] i l = refl
+last-push (j ∷ p) i l = last-push p i (Some j)
+
 -- past a version that has not the stamp
 holds-append : (s : ℕ) (us bs : List Version) → holds s (us ++ bs) ≡ (holds s us || holds s bs)
 holds-append s [] bs = refl
@@ -85,13 +90,6 @@ module _ (rs : List Record) (first l : Option ℕ) (p : List ℕ) (i : ℕ) (goo
       above-push : (vs : List Version) → above s vs ≡ true → above s (vs ++ (version-of rs i ∷ [])) ≡ true
       above-push [] h = grind (arith, tells)
       above-push (v ∷ vs) h = grind (arith, tells, above-push vs)
-
-  pub last-on : (m : Option ℕ) → Some i ≡ last-of m (p ++ (i ∷ []))
-  last-on m = end p m
-    where
-      end : (q : List ℕ) (z : Option ℕ) → Some i ≡ last-of z (q ++ (i ∷ []))
-      end [] z = refl
-      end (j ∷ q) z = end q (Some j)
 
   pub place-low : (s : ℕ) → version-of rs i .write ≤ s → low s (along rs l) ≡ true
   place-low s le = ap (λ (q : List ℕ). low s (map (version-of rs) q)) (opened rs l i good′ at) ∙ grind (arith, tells)

@@ -4,7 +4,7 @@ use mathlib.Core.List.{List, [], map}
 use mathlib.Core.Bool.{cond}
 use lib.Dec.{eqb, ltb}
 use lib.ListN.{getD, set, drop}
-use Prim.Native.Nat.{ℕ, _-_, min}
+use Prim.Native.Nat.{ℕ, _+_, _-_, min}
 use denote.Ref.{now}
 use Rattle.std.specs.declared.option.Option.{Option}
 use Rattle.std.specs.declared.option.Option.the-variants.{Some, None}
@@ -89,6 +89,12 @@ moved s c newer to x r fl n =
       free = fl;
       count = n;
     }
+
+-- the record at i taken out of chain c, where it stands behind `newer`, and put in front of the free ones
+abbrev pub freed : Store → ℕ → Option ℕ → ℕ → Store
+freed s c newer i =
+    moved s c newer (next-of (s .records) i) i (record { version = version-of (s .records) i; next = s .free }) (Some i)
+    (s .count + 1)
 
 -- what is lent and not used stays as it was
 pub record Unused (s s′ : Store) : Type 0 where

@@ -18,7 +18,7 @@ use words::Version;
 
 impl<'a> Links<'a> {
     // Rewrites the record at `at`, and leads the cell's chain, behind `newer`, to `to`.
-    fn relink(
+    pub(crate) fn relink(
         &mut self,
         cell: usize,
         newer: Option<usize>,

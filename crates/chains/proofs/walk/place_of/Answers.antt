@@ -9,7 +9,7 @@ use Rattle.std.specs.declared.option.Option.the-variants.{Some, None}
 use Rattle.chains.specs.declared.record.Record.{Record}
 use Rattle.chains.specs.Chain.{version-of, path, good, last-of}
 use Rattle.chains.specs.Walk.{above, low, Placed}
-use Rattle.chains.proofs.Walks.{at-some, at-none, shorter, longer, place-on, last-on, place-low}
+use Rattle.chains.proofs.Walks.{at-some, at-none, shorter, longer, place-on, last-push, place-low}
 use Rattle.chains.proofs.walk.place_of.Needs as need
 
 pub record-at-record-requires : need.record-at-record-requires
@@ -48,7 +48,7 @@ loop-older-again c =
     let next = ap (λ (z : Record). z .next) (c .record-at-record .ensures) in
     let e = ap (λ (z : Record). z .version .write) (c .record-at-record .ensures) in
     subst (λ (z : Option ℕ). (q : List ℕ) × (good rs z ≡ true) × (path rs (c .args .first) ≡ q ++ path rs z) × (Some i ≡ last-of None q) × (above (c .args .stamp) (map (version-of rs) q) ≡ true)) (sym next)
-    (h .0 ++ (i ∷ []), at-some rs (c .loop-older .older) i (h .1) is .onward, longer rs (c .args .first) (c .loop-older .older) (h .0) i (h .1) (h .2) is, last-on rs (c .args .first) (c .loop-older .older) (h .0) i (h .1) (h .2) is None, place-on rs (c .args .first) (c .loop-older .older) (h .0) i (h .1) (h .2) is (c .args .stamp) (h .4) (omega (arith, e, c .if-record-stamp .left)))
+    (h .0 ++ (i ∷ []), at-some rs (c .loop-older .older) i (h .1) is .onward, longer rs (c .args .first) (c .loop-older .older) (h .0) i (h .1) (h .2) is, last-push (h .0) i None, place-on rs (c .args .first) (c .loop-older .older) (h .0) i (h .1) (h .2) is (c .args .stamp) (h .4) (omega (arith, e, c .if-record-stamp .left)))
 
 pub returns : need.returns
 returns c =
