@@ -115,6 +115,7 @@ module _ (s : Store) (kept : Kept s) (c : ℕ) (in′ : c < s .cells) (p : List 
           counted = counted;
           sinking = still-sinking s given c vs (kept .sinking) sink lists;
           few = kept .few;
+          roomy = kept .roomy;
           headed = omega (arith, kept .headed, heads-length newer c (next-of (s .records) j) (s .heads));
           lent = omega (arith, kept .lent, to-length newer (next-of (s .records) j) (set (s .records) j r), length-set (s .records) j r);
         };

@@ -10,3 +10,4 @@ pub mod Walks
 pub mod Inserts
 pub mod Alters
 pub mod Cutting
+pub mod Clears

@@ -73,6 +73,7 @@ module _ (s : Store) (kept : Kept s) (c : ℕ) (in′ : c < s .cells) (p : List 
           counted = kept .counted ∙ sym (ap (λ (F : ℕ → List ℕ). length (F (s .cells))) (done .paths));
           sinking = still-sinking s (rewrite s i v) c vs (kept .sinking) sink lists;
           few = kept .few;
+          roomy = kept .roomy;
           headed = kept .headed;
           lent = omega (arith, kept .lent, length-set (s .records) i r);
         };

@@ -124,6 +124,7 @@ module _ (s : Store) (kept : Kept s) (c : ℕ) (in′ : c < s .cells) (p q : Lis
           counted = counted;
           sinking = still-sinking s taken c vs (kept .sinking) sink lists;
           few = kept .few;
+          roomy = kept .roomy;
           headed = omega (arith, kept .headed, heads-length newer c (Some f) (s .heads));
           lent = omega (arith, kept .lent, to-length newer (Some f) (set (s .records) f r), length-set (s .records) f r);
         };

@@ -4,7 +4,7 @@ use mathlib.Core.List.{List, [], _∷_}
 use mathlib.Core.Bool.{true, cond}
 use lib.Dec.{eqb, ltb}
 use lib.ListN.{length}
-use Prim.Native.Nat.{ℕ, zero, suc, _+_, _≤_}
+use Prim.Native.Nat.{ℕ, zero, suc, _+_, _-_, _≤_}
 use Rattle.tables.specs.Versions.{sinks}
 use Rattle.chains.specs.Chain.{good}
 use Rattle.chains.specs.Store.{Store, link, path-of, list}
@@ -45,5 +45,6 @@ pub record Kept (s : Store) : Type 0 where
   pub counted : Counted s
   pub sinking : Sinking s
   pub few : s .cells ≤ 1024
+  pub roomy : s .cells ≤ s .used - 2
   pub headed : s .cells ≤ length (s .heads)
   pub lent : s .used ≤ length (s .records)

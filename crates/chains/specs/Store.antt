@@ -9,6 +9,7 @@ use denote.Ref.{now}
 use Rattle.std.specs.declared.option.Option.{Option}
 use Rattle.std.specs.declared.option.Option.the-variants.{Some, None}
 use Rattle.words.specs.declared.version.Version.{Version}
+use Rattle.tables.specs.Versions.{first-version}
 use Rattle.tables.specs.Table.{Table}
 use Rattle.chains.specs.declared.record.Record.{Record}
 use Rattle.chains.specs.declared.links.Links.{Links}
@@ -45,6 +46,11 @@ rewrite s i v =
       free = s .free;
       count = s .count;
     }
+
+-- the record at i of a cleared table: one version for each cell, and behind them the free records
+abbrev pub first-record : ℕ → ℕ → ℕ → Record
+first-record cells used i =
+    record { version = first-version; next = cond (ltb i cells) None (cond (ltb (i + 1) used) (Some (i + 1)) None) }
 
 -- how many of v records are used
 abbrev pub used-of : ℕ → ℕ

@@ -4,6 +4,7 @@
 // that of the free records; every call only relinks records.
 mod ask;
 mod change;
+mod clear;
 mod cut;
 mod links;
 mod record;
