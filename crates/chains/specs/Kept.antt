@@ -7,7 +7,8 @@ use lib.ListN.{length}
 use Prim.Native.Nat.{ℕ, zero, suc, _+_, _-_, _≤_}
 use Rattle.tables.specs.Versions.{sinks}
 use Rattle.chains.specs.Chain.{good}
-use Rattle.chains.specs.Store.{Store, link, path-of, list}
+use Rattle.tables.specs.Table.{Table, Sound}
+use Rattle.chains.specs.Store.{Store, link, path-of, list, chained}
 
 -- how often j stands in a path
 abbrev pub count : ℕ → List ℕ → ℕ
@@ -48,3 +49,11 @@ pub record Kept (s : Store) : Type 0 where
   pub roomy : s .cells ≤ s .used - 2
   pub headed : s .cells ≤ length (s .heads)
   pub lent : s .used ≤ length (s .records)
+
+-- what stands in the trait's proof
+pub chained-sound : (s : Store) → s .cells ≤ 1024 → Sinking s → Sound (chained s)
+chained-sound s few sinking = record { few = few; sinking = sinking }
+
+-- the free places of every cell are the records used that hold no version
+pub record SharedPlaces (used : ℕ) (t : Table) : Type 0 where
+  pub shared : (c : ℕ) → t .free c + sum (t .cells) (λ q. length (t .versions q)) ≡ used
