@@ -11,3 +11,4 @@ pub mod Inserts
 pub mod Alters
 pub mod Cutting
 pub mod Clears
+pub mod Shares

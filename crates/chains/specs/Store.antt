@@ -10,7 +10,7 @@ use Rattle.std.specs.declared.option.Option.{Option}
 use Rattle.std.specs.declared.option.Option.the-variants.{Some, None}
 use Rattle.words.specs.declared.version.Version.{Version}
 use Rattle.tables.specs.Versions.{first-version}
-use Rattle.tables.specs.Table.{Table}
+use Rattle.tables.specs.Table.{Table, cleared}
 use Rattle.chains.specs.declared.record.Record.{Record}
 use Rattle.chains.specs.declared.links.Links.{Links}
 use Rattle.chains.specs.Chain.{next-of, version-of, path, along}
@@ -74,6 +74,10 @@ list s c = cond (ltb c (s .cells)) (along (s .records) (link s c)) []
 -- the free records are the free places of every cell
 abbrev pub chained : Store → Table
 chained s = record { cells = s .cells; versions = list s; free = λ c. s .count }
+
+-- the cleared table of that many cells and records: each record that is no cell's is free
+abbrev pub chained-clear : ℕ → ℕ → Table
+chained-clear cells used = record { cells = cells; versions = cleared cells; free = λ c. used - cells }
 
 -- the link behind the record at `newer`, or the head of c where there is none, led to `to`
 abbrev pub heads-to : Option ℕ → ℕ → Option ℕ → List (Option ℕ) → List (Option ℕ)
