@@ -2,3 +2,5 @@
 // also a consequence of a contract; the tests show that the compiled code does it.
 #[cfg(test)]
 mod row_table;
+#[cfg(test)]
+mod chain_table;
