@@ -1,0 +1,5 @@
+use Rattle.spare.proofs.Places.{all-empty}
+use Rattle.spare.proofs.spares.Spares.clear.Needs as need
+
+pub returns : need.returns
+returns c = all-empty 1024
