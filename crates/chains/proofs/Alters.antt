@@ -1,10 +1,10 @@
 -- Rewriting the version of the record that was found is changing the first version of that stamp.
-use mathlib.Core.Path.{_≡_, refl, sym, ap, subst, _∙_}
+use mathlib.Core.Path.{_≡_, refl, sym, ap, _∙_}
 use mathlib.Core.List.{List, [], _∷_, _++_, map}
-use mathlib.Core.Bool.{true, false}
+use mathlib.Core.Bool.{false}
 use lib.Dec.{leb}
-use lib.ListN.{length, getD, drop}
-use Prim.Native.Nat.{ℕ, _≤_, _<_}
+use lib.ListN.{getD, drop}
+use Prim.Native.Nat.{ℕ, _<_}
 use native.Mathlib.Omega.{arith}
 use Rattle.std.specs.declared.option.Option.the-variants.{None}
 use Rattle.std.proofs.shelf.Lists.{map-append, drop-set-lt}
@@ -20,7 +20,6 @@ use Rattle.chains.specs.Kept.{count, Kept}
 use Rattle.chains.specs.Walk.{Found}
 use Rattle.chains.proofs.Sums.{count-append, count-first}
 use Rattle.chains.proofs.Keeps.{within}
-use Rattle.chains.proofs.Changes.{Changed}
 use Rattle.chains.proofs.Rewrites.{rewrites}
 use Rattle.chains.proofs.Inserts.{own-head, own-list}
 
@@ -31,10 +30,6 @@ at-split s f (u ∷ us) v vs none e = grind (arith, tells, at-split s f us v vs)
 pending-split : (s : ℕ) (us : List Version) (v : Version) (vs : List Version) → holds s us ≡ false → v .write ≡ s → holds-pending s (us ++ (v ∷ vs)) ≡ pending (v .status)
 pending-split s [] v vs none e = grind (arith, tells)
 pending-split s (u ∷ us) v vs none e = grind (arith, tells, pending-split s us v vs)
-
-pub none-pending : (s : ℕ) (vs : List Version) → holds s vs ≡ false → holds-pending s vs ≡ false
-none-pending s [] h = refl
-none-pending s (v ∷ vs) h = grind (arith, tells, none-pending s vs)
 
 -- all that is said of an accepted raise or mark
 pub record AlterDone (s s′ : Store) (c stamp : ℕ) (f : Version → Version) : Type 0 where

@@ -1,29 +1,19 @@
 -- A kept store after one call: which lists it has, and that it is kept.
-use mathlib.Core.Path.{_≡_, refl, sym, ap, subst, fun-ext, _∙_}
-use mathlib.Core.List.{List, [], _∷_, _++_, map}
-use mathlib.Core.Bool.{cond, true, false}
+use mathlib.Core.Path.{_≡_, sym, ap, subst, fun-ext, _∙_}
+use mathlib.Core.List.{List, []}
+use mathlib.Core.Bool.{cond, true}
 use mathlib.Core.Logic.{⊎-elim}
-use lib.Dec.{eqb, ltb}
-use lib.ListN.{length, getD, set}
-use Prim.Native.Nat.{ℕ, suc, _+_, _-_, _≤_, _<_}
+use lib.Dec.{ltb}
+use Prim.Native.Nat.{ℕ, _-_, _<_}
 use native.Mathlib.Omega.{arith}
-use Rattle.std.specs.declared.option.Option.{Option}
-use Rattle.std.specs.declared.option.Option.the-variants.{Some, None}
-use Rattle.std.proofs.shelf.Lists.{length-set, getD-set-same, getD-set-other, map-append}
-use Rattle.std.proofs.shelf.Tests.{cases-lt, cases-eq, lt-ltb, le-ltb, eq-eqb, ne-eqb}
-use Rattle.std.proofs.shelf.Ways.{tells}
+use Rattle.std.proofs.shelf.Tests.{cases-lt, cases-eq, lt-ltb, le-ltb}
 use Rattle.words.specs.declared.version.Version.{Version}
 use Rattle.tables.specs.Versions.{sinks}
 use Rattle.tables.specs.Table.{put}
 use Rattle.tables.proofs.Lengths.{put-here, put-other}
-use Rattle.chains.specs.declared.record.Record.{Record}
-use Rattle.chains.specs.Chain.{blank, next-of, version-of, path, along, last-of}
-use Rattle.chains.specs.Store.{Store, link, path-of, list, heads-to, records-to, moved}
-use Rattle.chains.specs.Kept.{count, sum, Kept, Sinking}
-use Rattle.chains.proofs.Sums.{count-append}
-use Rattle.chains.proofs.Paths.{Led, Linked, linked, led-frame, Stepped, stepped, versions-frame}
-use Rattle.chains.proofs.Keeps.{follows, Pathed, pathed, within, stands-once, nowhere-else}
-use Rattle.chains.proofs.Moves.{to-frame, to-versions, to-length, moves, other-versions}
+use Rattle.chains.specs.Chain.{along}
+use Rattle.chains.specs.Store.{Store, link, list}
+use Rattle.chains.specs.Kept.{Kept, Sinking}
 
 -- after a call: kept, with the list of cell c replaced by vs
 pub record Changed (s s′ : Store) (c : ℕ) (vs : List Version) : Type 0 where

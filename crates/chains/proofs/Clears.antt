@@ -1,7 +1,7 @@
 -- The memory of a cleared table: each cell has one record, and the others are free, in order.
 use mathlib.Core.Path.{_≡_, refl, sym, ap, subst, subst⁻¹, fun-ext, _∙_}
 use mathlib.Core.List.{List, [], _∷_, map}
-use mathlib.Core.Bool.{cond, true, false}
+use mathlib.Core.Bool.{cond}
 use mathlib.Core.Logic.{⊎-elim}
 use lib.Dec.{eqb, ltb}
 use lib.ListN.{length, getD}
@@ -16,7 +16,7 @@ use Rattle.tables.specs.Versions.{first-version, sinks}
 use Rattle.tables.specs.Table.{cleared}
 use Rattle.chains.specs.declared.record.Record.{Record}
 use Rattle.chains.specs.Chain.{blank, next-of, version-of, along}
-use Rattle.chains.specs.Store.{Store, link, path-of, list, first-record}
+use Rattle.chains.specs.Store.{Store, link, list, first-record}
 use Rattle.chains.specs.Kept.{count, sum, Kept}
 use Rattle.chains.proofs.Sums.{sum-same}
 use Rattle.chains.proofs.Paths.{Linked}

@@ -1,8 +1,8 @@
 -- Cutting a chain record by record: what has been passed is kept or given back, what is left is as
 -- it was.
-use mathlib.Core.Path.{_≡_, refl, sym, ap, ap₂, subst, fun-ext, _∙_}
+use mathlib.Core.Path.{_≡_, refl, sym, ap, ap₂, subst, _∙_}
 use mathlib.Core.List.{List, [], _∷_, _++_, map}
-use mathlib.Core.Bool.{cond, true, false}
+use mathlib.Core.Bool.{true, false}
 use lib.Dec.{leb}
 use lib.ListN.{length, getD, set, drop}
 use Prim.Native.Nat.{ℕ, suc, _+_, _≤_, _<_}
@@ -15,16 +15,15 @@ use Rattle.words.specs.declared.version.Version.{Version}
 use Rattle.tables.specs.Versions.{top, ordered, sinks, stays, kept as staying, cut-count}
 use Rattle.tables.specs.Table.{Cut, put}
 use Rattle.tables.proofs.Cuts.{cut-counts}
-use Rattle.tables.proofs.Lengths.{put-same}
+use Rattle.tables.proofs.Lengths.{put-same, put-put}
 use Rattle.chains.specs.declared.record.Record.{Record}
 use Rattle.chains.specs.Chain.{blank, next-of, version-of, path, good, along, last-of}
-use Rattle.chains.specs.Store.{Store, link, path-of, list, chained, records-to, moved, Unused}
+use Rattle.chains.specs.Store.{Store, link, path-of, list, chained, moved, Unused}
 use Rattle.chains.specs.Kept.{count, Kept}
 use Rattle.chains.proofs.Sums.{count-append, count-first, sum-two}
 use Rattle.chains.proofs.Paths.{Linked, linked, linked-ends}
 use Rattle.chains.proofs.Keeps.{within}
 use Rattle.chains.proofs.Moves.{to-length, newer-in}
-use Rattle.chains.proofs.Changes.{Changed}
 use Rattle.chains.proofs.Gives.{gives, onward, fronted, kept-versions}
 use Rattle.chains.proofs.Walks.{at-none, at-some, opened, path-short, last-push}
 use Rattle.chains.proofs.Inserts.{own-head, own-list, own-good, moved-unused, same-unused}
@@ -65,9 +64,6 @@ ordered-looser m n le (v ∷ vs) h = grind (arith, tells)
 ordered-without : (n : ℕ) (us : List Version) (v : Version) (vs : List Version) → ordered leb n (us ++ (v ∷ vs)) ≡ true → ordered leb n (us ++ vs) ≡ true
 ordered-without n [] v vs h = grind (arith, tells, ordered-looser (v .write) n)
 ordered-without n (u ∷ us) v vs h = grind (arith, tells, ordered-without (u .write) us v vs)
-
-put-put : {A : Type 0} (f : ℕ → A) (c : ℕ) (x y : A) → put (put f c x) c y ≡ put f c y
-put-put f c x y = fun-ext (λ q. grind (arith, tells))
 
 unused-then : (a b d : Store) → Unused a b → Unused b d → Unused a d
 unused-then a b d f g =

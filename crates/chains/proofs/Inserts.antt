@@ -1,7 +1,7 @@
 -- Inserting a version into a cell's chain is inserting it into the cell's list by its stamp.
-use mathlib.Core.Path.{_≡_, refl, sym, ap, subst, subst⁻¹, _∙_}
+use mathlib.Core.Path.{_≡_, refl, sym, ap, subst, _∙_}
 use mathlib.Core.List.{List, [], _∷_, _++_, map}
-use mathlib.Core.Bool.{cond, true, false}
+use mathlib.Core.Bool.{true, false}
 use lib.Dec.{eqb, ltb}
 use lib.ListN.{length, getD, set, drop}
 use Prim.Native.Nat.{ℕ, _+_, _-_, _≤_, _<_}
@@ -9,16 +9,16 @@ use native.Mathlib.Omega.{arith}
 use Rattle.std.specs.declared.option.Option.{Option}
 use Rattle.std.specs.declared.option.Option.the-variants.{Some, None}
 use Rattle.std.proofs.shelf.Lists.{map-append, drop-set-lt}
-use Rattle.std.proofs.shelf.Tests.{lt-ltb, le-ltb, eq-eqb, ne-eqb}
+use Rattle.std.proofs.shelf.Tests.{lt-ltb, eq-eqb, ne-eqb}
 use Rattle.std.proofs.shelf.Ways.{tells}
-use Rattle.words.specs.Outcome.{Outcome, accepted, refuse}
+use Rattle.words.specs.Outcome.{accepted, refuse}
 use Rattle.words.specs.declared.refusal.Refusal.the-variants.{NoPlace}
 use Rattle.words.specs.declared.version.Version.{Version}
 use Rattle.tables.specs.Versions.{top, new-version, sinks, holds, with-version}
 use Rattle.tables.specs.Table.{Inserted, insert-in, put}
 use Rattle.tables.proofs.Order.{sinks-with}
 use Rattle.chains.specs.declared.record.Record.{Record}
-use Rattle.chains.specs.Chain.{blank, next-of, version-of, path, good, along, last-of}
+use Rattle.chains.specs.Chain.{blank, next-of, version-of, path, good, along}
 use Rattle.chains.specs.Store.{Store, link, path-of, list, chained, heads-to, records-to, moved, Unused}
 use Rattle.chains.specs.Kept.{count, Kept}
 use Rattle.chains.specs.Walk.{above, low, Placed}

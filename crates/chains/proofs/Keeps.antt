@@ -1,16 +1,16 @@
 -- A store whose links follow given paths, and whose paths hold each used record once, is kept; its
 -- paths are the given ones.
-use mathlib.Core.Path.{_≡_, refl, sym, ap, subst, fun-ext, _∙_}
+use mathlib.Core.Path.{_≡_, refl, ap, subst, fun-ext, _∙_}
 use mathlib.Core.List.{List, [], _∷_}
-use mathlib.Core.Bool.{cond, true, false}
+use mathlib.Core.Bool.{cond, true}
 use mathlib.Core.Logic.{⊎-elim}
-use lib.Dec.{eqb, ltb}
-use lib.ListN.{length, getD}
-use Prim.Native.Nat.{ℕ, suc, _+_, _≤_, _<_}
+use lib.Dec.{ltb}
+use lib.ListN.{length}
+use Prim.Native.Nat.{ℕ, suc, _≤_, _<_}
 use native.Mathlib.Omega.{arith}
 use Rattle.std.specs.declared.option.Option.{Option}
-use Rattle.std.specs.declared.option.Option.the-variants.{Some, None}
-use Rattle.std.proofs.shelf.Tests.{cases-lt, cases-eq, lt-ltb, le-ltb, eq-eqb, ne-eqb}
+use Rattle.std.specs.declared.option.Option.the-variants.{None}
+use Rattle.std.proofs.shelf.Tests.{cases-lt}
 use Rattle.std.proofs.shelf.Ways.{tells}
 use Rattle.chains.specs.Chain.{good}
 use Rattle.chains.specs.Store.{Store, link, path-of}

@@ -1,8 +1,7 @@
 -- One record rewritten and one chain led elsewhere: what becomes of all the paths. Inserting a
 -- record and freeing one are both such a move.
-use mathlib.Core.Path.{_≡_, refl, sym, ap, subst, fun-ext, _∙_}
+use mathlib.Core.Path.{_≡_, refl, sym, ap, subst, _∙_}
 use mathlib.Core.List.{List, [], _∷_, _++_, map}
-use mathlib.Core.Bool.{cond, true, false}
 use mathlib.Core.Logic.{⊎-elim}
 use lib.Dec.{eqb, ltb}
 use lib.ListN.{length, getD, set}
@@ -13,11 +12,10 @@ use Rattle.std.specs.declared.option.Option.the-variants.{Some, None}
 use Rattle.std.proofs.shelf.Lists.{length-set, getD-set-same, getD-set-other, length-append}
 use Rattle.std.proofs.shelf.Tests.{cases-lt, cases-eq, lt-ltb, le-ltb, eq-eqb, ne-eqb}
 use Rattle.std.proofs.shelf.Ways.{tells}
-use Rattle.words.specs.declared.version.Version.{Version}
 use Rattle.tables.specs.Table.{put}
 use Rattle.tables.proofs.Lengths.{put-here, put-other}
 use Rattle.chains.specs.declared.record.Record.{Record}
-use Rattle.chains.specs.Chain.{blank, next-of, version-of, last-of}
+use Rattle.chains.specs.Chain.{blank, version-of, last-of}
 use Rattle.chains.specs.Store.{Store, link, path-of, heads-to, records-to, moved}
 use Rattle.chains.specs.Kept.{count, sum, Kept}
 use Rattle.chains.proofs.Sums.{count-append, sum-same, sum-put}

@@ -1,9 +1,8 @@
 -- The free places of every cell: the records used that hold no version.
-use mathlib.Core.Path.{_≡_, ap, _∙_}
-use mathlib.Core.List.{List, []}
+use mathlib.Core.Path.{ap, _∙_}
+use mathlib.Core.List.{[]}
 use mathlib.Core.Bool.{cond}
 use lib.ListN.{length}
-use Prim.Native.Nat.{ℕ}
 use native.Mathlib.Omega.{arith}
 use Rattle.std.proofs.shelf.Lists.{length-map}
 use Rattle.std.proofs.shelf.Tests.{lt-ltb}

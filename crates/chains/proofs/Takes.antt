@@ -1,15 +1,14 @@
 -- The first free record, written and put into a cell's chain behind `newer`.
 use mathlib.Core.Path.{_≡_, refl, sym, ap, ap₂, subst, _∙_}
-use mathlib.Core.List.{List, [], _∷_, _++_, map}
-use mathlib.Core.Bool.{cond, true}
+use mathlib.Core.List.{List, _∷_, _++_, map}
+use mathlib.Core.Bool.{true}
 use lib.ListN.{length, getD, set}
 use Prim.Native.Nat.{ℕ, _+_, _-_, _≤_, _<_}
 use native.Mathlib.Omega.{arith}
 use Rattle.std.specs.declared.option.Option.{Option}
 use Rattle.std.specs.declared.option.Option.the-variants.{Some, None}
-use Rattle.std.proofs.shelf.Lists.{length-set, getD-set-same, getD-set-other, map-append}
-use Rattle.std.proofs.shelf.Tests.{lt-ltb, le-ltb, eq-eqb}
-use Rattle.std.proofs.shelf.Ways.{tells}
+use Rattle.std.proofs.shelf.Lists.{length-set, map-append}
+use Rattle.std.proofs.shelf.Tests.{le-ltb, eq-eqb}
 use Rattle.words.specs.declared.version.Version.{Version}
 use Rattle.tables.specs.Versions.{sinks}
 use Rattle.tables.specs.Table.{put}
@@ -18,8 +17,8 @@ use Rattle.chains.specs.Chain.{blank, next-of, version-of, path, good, along, 
 use Rattle.chains.specs.Store.{Store, link, path-of, list, records-to, moved}
 use Rattle.chains.specs.Kept.{count, Kept}
 use Rattle.chains.proofs.Sums.{count-append, count-first}
-use Rattle.chains.proofs.Paths.{Linked, linked, led-frame, Stepped, stepped, versions-frame}
-use Rattle.chains.proofs.Keeps.{follows, Pathed, within, stands-once, nowhere-else}
+use Rattle.chains.proofs.Paths.{Linked, linked, Stepped, stepped}
+use Rattle.chains.proofs.Keeps.{Pathed, within, stands-once, nowhere-else}
 use Rattle.chains.proofs.Moves.{heads-length, to-length, newer-tail, newer-free, framed, seen, rewritten, after-own, after-free, after-other, moves, other-versions}
 use Rattle.chains.proofs.Changes.{Changed, still-sinking, lists-by}
 

@@ -1,23 +1,23 @@
 -- The walks along a chain, step by step.
 use mathlib.Core.Path.{_≡_, refl, sym, ap, subst, _∙_}
 use mathlib.Core.List.{List, [], _∷_, _++_, map}
-use mathlib.Core.Bool.{Bool, true, false, cond, _||_}
-use lib.Dec.{eqb}
+use mathlib.Core.Bool.{true, false}
 use lib.ListN.{length}
 use Prim.Native.Nat.{ℕ, zero, suc, _+_, _-_, _≤_, _<_}
 use native.Mathlib.Omega.{arith}
 use Rattle.std.specs.declared.option.Option.{Option}
 use Rattle.std.specs.declared.option.Option.the-variants.{Some, None}
-use Rattle.std.proofs.shelf.Lists.{append-nil, append-assoc, map-append, length-map}
+use Rattle.std.proofs.shelf.Lists.{append-nil, append-assoc, map-append}
 use Rattle.std.proofs.shelf.Ways.{tells}
 use Rattle.words.specs.Outcome.{accepted, refuse}
 use Rattle.words.specs.declared.refusal.Refusal.the-variants.{NoVersion}
 use Rattle.words.specs.declared.version.Version.{Version}
 use Rattle.tables.specs.Versions.{holds}
 use Rattle.tables.specs.Table.{version-in}
+use Rattle.tables.proofs.Holds.{holds-append}
 use Rattle.chains.specs.declared.record.Record.{Record}
 use Rattle.chains.specs.Chain.{next-of, version-of, chain, path, good, along, last-of}
-use Rattle.chains.specs.Walk.{Found, above, low, Placed}
+use Rattle.chains.specs.Walk.{Found, above, low}
 use Rattle.chains.proofs.Paths.{Stepped, stepped}
 
 -- a step, where the link is known to lead to i
@@ -63,11 +63,6 @@ version-none n = grind (arith, tells)
 pub last-push : (p : List ℕ) (i : ℕ) (l : Option ℕ) → Some i ≡ last-of l (p ++ (i ∷ []))
 last-push [] i l = refl
 last-push (j ∷ p) i l = last-push p i (Some j)
-
--- past a version that has not the stamp
-holds-append : (s : ℕ) (us bs : List Version) → holds s (us ++ bs) ≡ (holds s us || holds s bs)
-holds-append s [] bs = refl
-holds-append s (v ∷ us) bs = grind (arith, tells, holds-append s us bs)
 
 module _ (rs : List Record) (first l : Option ℕ) (p : List ℕ) (i : ℕ) (good′ : good rs l ≡ true) (split : path rs first ≡ p ++ path rs l) (at : l ≡ Some i) where
   -- the front with one record more

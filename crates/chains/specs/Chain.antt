@@ -1,5 +1,4 @@
 -- Records linked by index: the path of a link, and the versions along it.
-use mathlib.Core.Path.{_≡_}
 use mathlib.Core.List.{List, [], _∷_, map}
 use mathlib.Core.Bool.{Bool, true, false, _&&_}
 use lib.Dec.{ltb}

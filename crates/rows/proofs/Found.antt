@@ -1,10 +1,9 @@
 -- The two searches of a row, step by step, and what finding a stamp tells of the calls.
 use mathlib.Core.Path.{_≡_, refl, ap, _∙_}
-use mathlib.Core.List.{List, [], _∷_, _++_}
-use mathlib.Core.Bool.{true, false, _||_}
+use mathlib.Core.List.{List, [], _∷_}
+use mathlib.Core.Bool.{true, false}
 use Prim.Native.Nat.{ℕ, zero, suc, _+_, _≤_, _<_}
 use native.Mathlib.Omega.{arith}
-use lib.Dec.{eqb}
 use lib.ListN.{length, take, drop, getD, set}
 use Rattle.std.specs.Holes.{inserted}
 use Rattle.std.proofs.shelf.Lists.{take-more, at-drop-more, at-drop-all}
@@ -12,14 +11,11 @@ use Rattle.std.proofs.shelf.Ways.{tells}
 use Rattle.words.specs.Status.{pending}
 use Rattle.words.specs.declared.version.Version.{Version}
 use Rattle.tables.specs.Versions.{absent, holds, holds-pending, with-version, at-stamp}
+use Rattle.tables.proofs.Holds.{holds-append}
 use Rattle.rows.specs.Search.{place, First}
 
-holds-push : (s : ℕ) (vs : List Version) (v : Version) → holds s (vs ++ v ∷ []) ≡ (holds s vs || eqb (v .write) s)
-holds-push s [] v = grind (arith, tells)
-holds-push s (w ∷ ws) v = grind (arith, tells, holds-push s ws v)
-
 pub find-more : (s : ℕ) (vs : List Version) (i : ℕ) → i < length vs → holds s (take i vs) ≡ false → (getD vs i absent .write ≡ s → ⊥) → holds s (take (i + 1) vs) ≡ false
-find-more s vs i l h n = ap (holds s) (take-more vs i absent l) ∙ grind (arith, tells, holds-push s (take i vs) (getD vs i absent))
+find-more s vs i l h n = ap (holds s) (take-more vs i absent l) ∙ grind (arith, tells, holds-append s (take i vs) (getD vs i absent ∷ []))
 
 module _ (s : ℕ) (vs : List Version) (i : ℕ) (inv : i + place s (drop i vs) ≡ place s vs) where
   pub place-more : i < length vs → s < getD vs i absent .write → (i + 1) + place s (drop (i + 1) vs) ≡ place s vs
@@ -56,10 +52,6 @@ found-pending {s} {vs} {i} found = go s vs i (found .within) (found .here) (foun
     go s [] i l e b = absurd (omega arith)
     go s (v ∷ vs) zero l e b = grind (arith, tells)
     go s (v ∷ vs) (suc i) l e b = grind (arith, tells, go s vs i (omega arith) e)
-
-pub absent-pending : (s : ℕ) (vs : List Version) → holds s vs ≡ false → holds-pending s vs ≡ false
-absent-pending s [] h = refl
-absent-pending s (v ∷ vs) h = grind (arith, tells, absent-pending s vs)
 
 pub place-le : (s : ℕ) (vs : List Version) → place s vs ≤ length vs
 place-le s [] = omega arith

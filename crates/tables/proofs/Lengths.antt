@@ -28,3 +28,6 @@ module _ {A : Type 0} (f : ℕ → A) (c : ℕ) where
 
   pub put-same : put f c (f c) ≡ f
   put-same = fun-ext (λ q. grind (arith, tells))
+
+  pub put-put : (x y : A) → put (put f c x) c y ≡ put f c y
+  put-put x y = fun-ext (λ q. grind (arith, tells))

@@ -2,3 +2,4 @@ pub mod Order
 pub mod Cuts
 pub mod Lengths
 pub mod Reaches
+pub mod Holds

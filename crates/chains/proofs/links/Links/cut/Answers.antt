@@ -1,14 +1,12 @@
-use mathlib.Core.Path.{_≡_, sym, ap, subst, subst⁻¹, _∙_}
-use mathlib.Core.Bool.{Bool, true, false}
+use mathlib.Core.Path.{sym, ap, subst, subst⁻¹, _∙_}
 use Prim.Native.Nat.{ℕ, _+_, _<_}
 use native.Mathlib.Omega.{arith}
 use lib.ListN.{length}
 use Rattle.std.specs.declared.option.Option.{Option}
 use Rattle.std.specs.declared.option.Option.the-variants.{Some, None}
-use Rattle.words.specs.declared.version.Version.{Version}
 use Rattle.tables.specs.Versions.{stays}
 use Rattle.chains.specs.declared.record.Record.{Record}
-use Rattle.chains.specs.Chain.{version-of, next-of, path}
+use Rattle.chains.specs.Chain.{path}
 use Rattle.chains.specs.Store.{Store, store, freed}
 use Rattle.chains.proofs.Walks.{at-some}
 use Rattle.chains.proofs.Cutting.{Cutting, cut-start, cut-stay, cut-give, stay-shorter, give-shorter, given-used, newer-given, count-room, cut-end}

@@ -1,13 +1,11 @@
-use mathlib.Core.Path.{_≡_, refl, sym, ap, subst⁻¹, _∙_}
-use mathlib.Core.Bool.{false}
-use Prim.Native.Nat.{ℕ, _-_, _<_}
+use mathlib.Core.Path.{refl, sym, ap, subst⁻¹, _∙_}
+use Prim.Native.Nat.{ℕ, _-_}
 use native.Mathlib.Omega.{arith}
 use Rattle.std.specs.declared.option.Option.{Option}
 use Rattle.std.specs.declared.option.Option.the-variants.{Some}
-use Rattle.tables.specs.Versions.{new-version, holds}
+use Rattle.tables.specs.Versions.{new-version}
 use Rattle.chains.specs.declared.record.Record.{Record}
-use Rattle.chains.specs.Chain.{next-of}
-use Rattle.chains.specs.Store.{Store, store, list, moved}
+use Rattle.chains.specs.Store.{Store, store, moved}
 use Rattle.chains.proofs.Inserts.{no-place, same-unused, some-free, free-used, newer-used, InsertDone, inserts, insert-answers}
 use Rattle.chains.proofs.links.Links.insert.Needs as need
 

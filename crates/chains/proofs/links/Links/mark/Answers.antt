@@ -1,12 +1,13 @@
-use mathlib.Core.Path.{_≡_, refl, sym, ap, subst⁻¹, _∙_}
+use mathlib.Core.Path.{refl, sym, ap, subst⁻¹, _∙_}
 use native.Mathlib.Omega.{arith}
 use Rattle.words.specs.Status.{pending}
 use Rattle.words.specs.declared.status.Status.{Status}
-use Rattle.tables.specs.Versions.{holds, marked}
+use Rattle.tables.specs.Versions.{marked}
+use Rattle.tables.proofs.Holds.{none-pending}
 use Rattle.chains.specs.declared.record.Record.{Record}
 use Rattle.chains.specs.Store.{Store, store, list, rewrite}
 use Rattle.chains.proofs.Inserts.{same-unused}
-use Rattle.chains.proofs.Alters.{none-pending, found-used, found-status, AlterDone, alters}
+use Rattle.chains.proofs.Alters.{found-used, found-status, AlterDone, alters}
 use Rattle.chains.proofs.links.Links.mark.Needs as need
 
 pub returns-in-rest : need.returns-in-rest

@@ -1,7 +1,6 @@
-use mathlib.Core.Path.{_≡_, refl, sym, ap, subst⁻¹, _∙_}
+use mathlib.Core.Path.{refl, ap, subst⁻¹, _∙_}
 use Prim.Native.Nat.{ℕ}
 use native.Mathlib.Omega.{arith}
-use Rattle.words.specs.declared.version.Version.{Version}
 use Rattle.tables.specs.Versions.{raised}
 use Rattle.chains.specs.declared.record.Record.{Record}
 use Rattle.chains.specs.Store.{Store, store, rewrite}

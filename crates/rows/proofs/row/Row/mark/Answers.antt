@@ -4,15 +4,16 @@ use lib.ListN.{getD, set}
 use Rattle.words.specs.Status.{pending}
 use Rattle.words.specs.declared.version.Version.{Version}
 use Rattle.tables.specs.Versions.{absent, holds, marked}
+use Rattle.tables.proofs.Holds.{none-pending}
 use Rattle.rows.specs.Row.{row-list}
 use Rattle.rows.specs.Search.{First}
-use Rattle.rows.proofs.Found.{absent-pending, found-pending, found-changed}
+use Rattle.rows.proofs.Found.{found-pending, found-changed}
 use Rattle.rows.proofs.row.Row.mark.Needs as need
 
 pub returns-in-rest : need.returns-in-rest
 returns-in-rest c =
     let vs = row-list (c .args .self .now) in
-    let none = absent-pending (c .args .stamp) vs (sym (ap (holds (c .args .stamp)) (c .list .ensures)) ∙ sym (c .in-rest .ensures tt .test)) in
+    let none = none-pending (c .args .stamp) vs (sym (ap (holds (c .args .stamp)) (c .list .ensures)) ∙ sym (c .in-rest .ensures tt .test)) in
     record { answer = rw none; after = refl }
 
 pub returns-then-not-is-pending : need.returns-then-not-is-pending
