@@ -12,7 +12,8 @@ use Rattle.std.specs.declared.option.Option.the-variants.{Some, None}
 use Rattle.std.proofs.shelf.Tests.{cases-lt, cases-eq, lt-ltb, le-ltb, eq-eqb, ne-eqb}
 use Rattle.std.proofs.shelf.Ways.{tells}
 use Rattle.words.specs.declared.version.Version.{Version}
-use Rattle.tables.specs.Versions.{first-version, sinks}
+use Rattle.words.specs.Version.{first-version}
+use Rattle.tables.specs.Versions.{sinks}
 use Rattle.tables.specs.Table.{cleared}
 use Rattle.chains.specs.declared.record.Record.{Record}
 use Rattle.chains.specs.Chain.{blank, next-of, version-of, along}

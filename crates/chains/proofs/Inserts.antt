@@ -14,7 +14,8 @@ use Rattle.std.proofs.shelf.Ways.{tells}
 use Rattle.words.specs.Outcome.{accepted, refuse}
 use Rattle.words.specs.declared.refusal.Refusal.the-variants.{NoPlace}
 use Rattle.words.specs.declared.version.Version.{Version}
-use Rattle.tables.specs.Versions.{top, new-version, sinks, holds, with-version}
+use Rattle.words.specs.Version.{new-version}
+use Rattle.tables.specs.Versions.{top, sinks, holds, with-version}
 use Rattle.tables.specs.Table.{Inserted, insert-in, put}
 use Rattle.tables.proofs.Order.{sinks-with}
 use Rattle.chains.specs.declared.record.Record.{Record}

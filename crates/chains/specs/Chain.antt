@@ -7,7 +7,7 @@ use Prim.Native.Nat.{ℕ, zero, suc}
 use Rattle.std.specs.declared.option.Option.{Option}
 use Rattle.std.specs.declared.option.Option.the-variants.{Some, None}
 use Rattle.words.specs.declared.version.Version.{Version}
-use Rattle.tables.specs.Versions.{absent}
+use Rattle.words.specs.Version.{absent}
 use Rattle.chains.specs.declared.record.Record.{Record}
 
 -- a record that holds no version and leads nowhere

@@ -9,7 +9,7 @@ use denote.Ref.{now}
 use Rattle.std.specs.declared.option.Option.{Option}
 use Rattle.std.specs.declared.option.Option.the-variants.{Some, None}
 use Rattle.words.specs.declared.version.Version.{Version}
-use Rattle.tables.specs.Versions.{first-version}
+use Rattle.words.specs.Version.{first-version}
 use Rattle.tables.specs.Table.{Table, cleared}
 use Rattle.chains.specs.declared.record.Record.{Record}
 use Rattle.chains.specs.declared.links.Links.{Links}
@@ -74,6 +74,10 @@ list s c = cond (ltb c (s .cells)) (along (s .records) (link s c)) []
 -- the free records are the free places of every cell
 abbrev pub chained : Store → Table
 chained s = record { cells = s .cells; versions = list s; free = λ c. s .count }
+
+-- what the lent memory means
+abbrev pub mean : Links → Table
+mean l = chained (store l)
 
 -- the cleared table of that many cells and records: each record that is no cell's is free
 abbrev pub chained-clear : ℕ → ℕ → Table

@@ -7,13 +7,12 @@ ghost use Rattle.std.specs.declared.option.Option.the-variants.{Some};
 ghost use Rattle.words.specs.Outcome.{told};
 ghost use Rattle.tables.specs.Versions.{raised, marked};
 ghost use Rattle.tables.specs.Table.{Inserted, Altered, insert-in, raise-in, mark-in};
-ghost use Rattle.chains.specs.Store.{store, list, chained, moved, rewrite, Unused};
+ghost use Rattle.chains.specs.Store.{store, list, mean, moved, rewrite, Unused};
 ghost use Rattle.chains.specs.Kept.{Kept};
 use crate::links::Links;
 use crate::record::Record;
 use words::Ending;
 use words::Refusal;
-use words::Status;
 use words::Version;
 
 impl<'a> Links<'a> {
@@ -47,7 +46,7 @@ impl<'a> Links<'a> {
         requires within { ⌜ cell < now self .cells ⌝ }
         ensures kept { λ _. ⌜ Kept (store (now (self .exit))) ⌝ }
         ensures answer { λ r. ⌜ told r ≡ insert-in (list (store (now (self .entry))) cell) (store (now (self .entry)) .count) stamp ⌝ }
-        ensures after { λ r. ⌜ Cases r (λ _. Inserted (chained (store (now (self .entry)))) (chained (store (now (self .exit)))) cell stamp value) (λ _. chained (store (now (self .exit))) ≡ chained (store (now (self .entry)))) ⌝ }
+        ensures after { λ r. ⌜ Cases r (λ _. Inserted (mean (now (self .entry))) (mean (now (self .exit))) cell stamp value) (λ _. mean (now (self .exit)) ≡ mean (now (self .entry))) ⌝ }
         ensures unused { λ _. ⌜ Unused (store (now (self .entry))) (store (now (self .exit))) ⌝ }
     {
         if self.find(cell, stamp).is_some() {
@@ -58,12 +57,7 @@ impl<'a> Links<'a> {
         };
         let place = self.place(cell, stamp);
         let next = self.record(free).next;
-        let version = Version {
-            write: stamp,
-            read: stamp,
-            status: Status::Pending,
-            value,
-        };
+        let version = Version::pending(stamp, value);
         self.relink(
             cell,
             place.newer,
@@ -92,7 +86,7 @@ impl<'a> Links<'a> {
         requires within { ⌜ cell < now self .cells ⌝ }
         ensures kept { λ _. ⌜ Kept (store (now (self .exit))) ⌝ }
         ensures answer { λ r. ⌜ told r ≡ raise-in (list (store (now (self .entry))) cell) stamp ⌝ }
-        ensures after { λ r. ⌜ Cases r (λ _. Altered (chained (store (now (self .entry)))) (chained (store (now (self .exit)))) cell stamp (raised to)) (λ _. chained (store (now (self .exit))) ≡ chained (store (now (self .entry)))) ⌝ }
+        ensures after { λ r. ⌜ Cases r (λ _. Altered (mean (now (self .entry))) (mean (now (self .exit))) cell stamp (raised to)) (λ _. mean (now (self .exit)) ≡ mean (now (self .entry))) ⌝ }
         ensures unused { λ _. ⌜ Unused (store (now (self .entry))) (store (now (self .exit))) ⌝ }
     {
         let Some(at) = self.find(cell, stamp) else {
@@ -109,7 +103,7 @@ impl<'a> Links<'a> {
         requires within { ⌜ cell < now self .cells ⌝ }
         ensures kept { λ _. ⌜ Kept (store (now (self .exit))) ⌝ }
         ensures answer { λ r. ⌜ told r ≡ mark-in (list (store (now (self .entry))) cell) stamp ⌝ }
-        ensures after { λ r. ⌜ Cases r (λ _. Altered (chained (store (now (self .entry)))) (chained (store (now (self .exit)))) cell stamp (marked ending)) (λ _. chained (store (now (self .exit))) ≡ chained (store (now (self .entry)))) ⌝ }
+        ensures after { λ r. ⌜ Cases r (λ _. Altered (mean (now (self .entry))) (mean (now (self .exit))) cell stamp (marked ending)) (λ _. mean (now (self .exit)) ≡ mean (now (self .entry))) ⌝ }
         ensures unused { λ _. ⌜ Unused (store (now (self .entry))) (store (now (self .exit))) ⌝ }
     {
         let Some(at) = self.find(cell, stamp) else {

@@ -11,7 +11,6 @@ ghost use Rattle.chains.specs.Store.{store, list, first-record, Unused};
 ghost use Rattle.chains.specs.Kept.{Kept};
 use crate::links::Links;
 use crate::record::Record;
-use words::Status;
 use words::Version;
 
 // The record at `at` of a cleared table.
@@ -19,12 +18,7 @@ fn first_record(cells: usize, used: usize, at: usize) -> Record
     requires { ⌜ at < used ⌝ }
     ensures { λ r. ⌜ r ≡ first-record cells used at ⌝ }
 {
-    let version = Version {
-        write: 0,
-        read: 0,
-        status: Status::Committed,
-        value: 0,
-    };
+    let version = Version::first();
     if at < cells || at + 1 >= used {
         return Record {
             version,

@@ -6,7 +6,7 @@ ghost use Rattle.std.specs.declared.option.Option.the-variants.{Some, None};
 ghost use Rattle.tables.specs.Versions.{cut-count};
 ghost use Rattle.tables.specs.Table.{Cut};
 ghost use Rattle.chains.specs.Chain.{next-of, version-of};
-ghost use Rattle.chains.specs.Store.{store, list, chained, moved, freed, Unused};
+ghost use Rattle.chains.specs.Store.{store, list, mean, moved, freed, Unused};
 ghost use Rattle.chains.specs.Kept.{Kept};
 use crate::links::Links;
 use crate::record::Record;
@@ -50,7 +50,7 @@ impl<'a> Links<'a> {
         requires within { ⌜ cell < now self .cells ⌝ }
         ensures kept { λ _. ⌜ Kept (store (now (self .exit))) ⌝ }
         ensures answer { λ r. ⌜ r ≡ cut-count stamp (list (store (now (self .entry))) cell) ⌝ }
-        ensures after { λ _. ⌜ Cut (chained (store (now (self .entry)))) (chained (store (now (self .exit)))) cell stamp ⌝ }
+        ensures after { λ _. ⌜ Cut (mean (now (self .entry))) (mean (now (self .exit))) cell stamp ⌝ }
         ensures unused { λ _. ⌜ Unused (store (now (self .entry))) (store (now (self .exit))) ⌝ }
     {
         let mut gone = 0;

@@ -16,7 +16,8 @@ use Rattle.std.proofs.shelf.Ways.{tells}
 use Rattle.words.specs.Outcome.{Outcome, told}
 use Rattle.words.specs.declared.refusal.Refusal.{Refusal}
 use Rattle.words.specs.declared.version.Version.{Version}
-use Rattle.tables.specs.Versions.{first-version, new-version, with-version, at-stamp, kept}
+use Rattle.words.specs.Version.{first-version, new-version}
+use Rattle.tables.specs.Versions.{with-version, at-stamp, kept}
 use Rattle.tables.specs.Table.{Table, Cleared, Inserted, Altered, Cut, in-cell, insert-in, put, cleared, held}
 use Rattle.tables.proofs.Lengths.{put-here, put-other, put-same}
 use Rattle.rows.specs.declared.row.Row.{Row}

@@ -7,7 +7,8 @@ use native.Mathlib.Omega.{arith}
 use lib.ListN.{length}
 use Rattle.std.proofs.shelf.Tests.{cases-eq}
 use Rattle.words.specs.declared.version.Version.{Version}
-use Rattle.tables.specs.Versions.{new-version, with-version, at-stamp, kept, cut-count}
+use Rattle.words.specs.Version.{new-version}
+use Rattle.tables.specs.Versions.{with-version, at-stamp, kept, cut-count}
 use Rattle.tables.specs.Table.{Only, Inserted, Altered, Cut, put}
 use Rattle.tables.proofs.Cuts.{cut-counts}
 use Rattle.tables.proofs.Lengths.{length-with, length-at-stamp, put-here, put-other}

@@ -10,7 +10,8 @@ use Rattle.std.proofs.shelf.Lists.{take-more, at-drop-more, at-drop-all}
 use Rattle.std.proofs.shelf.Ways.{tells}
 use Rattle.words.specs.Status.{pending}
 use Rattle.words.specs.declared.version.Version.{Version}
-use Rattle.tables.specs.Versions.{absent, holds, holds-pending, with-version, at-stamp}
+use Rattle.words.specs.Version.{absent}
+use Rattle.tables.specs.Versions.{holds, holds-pending, with-version, at-stamp}
 use Rattle.tables.proofs.Holds.{holds-append}
 use Rattle.rows.specs.Search.{place, First}
 

@@ -10,7 +10,8 @@ use Rattle.std.specs.Holes.{inserted}
 use Rattle.std.proofs.shelf.Lists.{length-take-le, same-lists, places, getD-set-same}
 use Rattle.std.proofs.shelf.Tests.{cases-eq}
 use Rattle.words.specs.declared.version.Version.{Version}
-use Rattle.tables.specs.Versions.{absent, ordered, with-version}
+use Rattle.words.specs.Version.{absent}
+use Rattle.tables.specs.Versions.{ordered, with-version}
 use Rattle.rows.specs.declared.row.Row.{Row}
 use Rattle.rows.specs.Row.{row-list}
 use Rattle.rows.specs.Search.{place}

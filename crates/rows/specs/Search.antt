@@ -6,7 +6,8 @@ use Prim.Native.Nat.{ℕ, suc, _<_}
 use lib.Dec.{ltb}
 use lib.ListN.{length, take, getD}
 use Rattle.words.specs.declared.version.Version.{Version}
-use Rattle.tables.specs.Versions.{holds, absent}
+use Rattle.words.specs.Version.{absent}
+use Rattle.tables.specs.Versions.{holds}
 
 -- how many versions at the front are stamped above s
 abbrev pub place : ℕ → List Version → ℕ

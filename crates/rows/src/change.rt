@@ -7,7 +7,8 @@ ghost use lib.ListN.{length, take, getD, set};
 ghost use Rattle.std.specs.Holes.{inserted};
 ghost use Rattle.std.specs.Results.{isOk};
 ghost use Rattle.words.specs.Outcome.{told};
-ghost use Rattle.tables.specs.Versions.{absent, first-version, new-version, with-version, at-stamp, raised, marked, kept, cut-count};
+ghost use Rattle.words.specs.Version.{absent, first-version, new-version};
+ghost use Rattle.tables.specs.Versions.{with-version, at-stamp, raised, marked, kept, cut-count};
 ghost use Rattle.tables.specs.Table.{version-in, insert-in, raise-in, mark-in};
 ghost use Rattle.rows.specs.Row.{row-list};
 use crate::row::Row;
@@ -16,7 +17,6 @@ use crate::search::place_of;
 use tables::stays;
 use words::Ending;
 use words::Refusal;
-use words::Status;
 use words::Version;
 
 impl Row {
@@ -24,14 +24,8 @@ impl Row {
     pub(crate) fn first() -> Row
         ensures { λ r. ⌜ row-list r ≡ first-version ∷ [] ⌝ }
     {
-        let first = Version {
-            write: 0,
-            read: 0,
-            status: Status::Committed,
-            value: 0,
-        };
         Row {
-            versions: [first; 8],
+            versions: [Version::first(); 8],
             len: 1,
         }
     }
@@ -67,12 +61,7 @@ impl Row {
         if self.len >= 8 {
             return Err(Refusal::NoPlace);
         }
-        self.add(Version {
-            write: stamp,
-            read: stamp,
-            status: Status::Pending,
-            value,
-        });
+        self.add(Version::pending(stamp, value));
         Ok(0)
     }
 

@@ -4,7 +4,7 @@ use mathlib.Core.List.{List, [], _∷_}
 use Prim.Native.Nat.{ℕ, _-_, _^_}
 use lib.ListN.{length}
 use Rattle.words.specs.Outcome.{Outcome, accepted, refused}
-use Rattle.tables.specs.Versions.{first-version, new-version}
+use Rattle.words.specs.Version.{first-version, new-version}
 use Rattle.rules.specs.declared.call.Call.{Call}
 use Rattle.rules.specs.declared.call.Call.the-variants.{Begin, Pulse, Sync, Read, Write, Seal, Install, Stamp, Check, Commit, Abort, Look, Close, Show, Commits, Collect}
 use Rattle.rules.specs.Model.{Model, idle, new-map, with-worker, with-list}

@@ -13,7 +13,8 @@ use Rattle.words.specs.declared.refusal.Refusal.the-variants.{NoWorker, NoCell,
 use Rattle.words.specs.declared.status.Ending.{Ending}
 use Rattle.words.specs.declared.status.Ending.the-variants.{Commit as Commits′, Abort as Aborts′}
 use Rattle.words.specs.declared.version.Version.{Version}
-use Rattle.tables.specs.Versions.{new-version, with-version, at-stamp, raised, marked, kept}
+use Rattle.words.specs.Version.{new-version}
+use Rattle.tables.specs.Versions.{with-version, at-stamp, raised, marked, kept}
 use Rattle.tables.specs.Table.{Table, put, insert-answer, raise-answer, mark-answer, cut-answer}
 use Rattle.rules.specs.declared.entry.ReadEntry.{ReadEntry}
 use Rattle.rules.specs.declared.entry.WriteEntry.{WriteEntry}

@@ -13,7 +13,8 @@ use Rattle.std.specs.declared.option.Option.the-variants.{Some, None}
 use Rattle.std.proofs.shelf.Ways.{tells}
 use Rattle.words.specs.Status.{pending}
 use Rattle.words.specs.declared.version.Version.{Version}
-use Rattle.tables.specs.Versions.{top, ordered, sinks, holds, holds-pending, new-version, with-version, at-stamp, stays, kept, cut-count}
+use Rattle.words.specs.Version.{new-version}
+use Rattle.tables.specs.Versions.{top, ordered, sinks, holds, holds-pending, with-version, at-stamp, stays, kept, cut-count}
 use Rattle.tables.proofs.Cuts.{cut-counts}
 use Rattle.tables.proofs.Lengths.{length-with}
 use Rattle.spare.specs.Spare.{taken, room, stamped, kept-spare, lost, with-spare}

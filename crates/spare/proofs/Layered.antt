@@ -15,7 +15,8 @@ use Rattle.std.specs.declared.result.Result.the-variants.{Ok, Err}
 use Rattle.std.proofs.shelf.Tests.{cases-eq}
 use Rattle.words.specs.declared.refusal.Refusal.{Refusal}
 use Rattle.words.specs.declared.version.Version.{Version}
-use Rattle.tables.specs.Versions.{new-version, with-version, kept}
+use Rattle.words.specs.Version.{new-version}
+use Rattle.tables.specs.Versions.{with-version, kept}
 use Rattle.tables.specs.Table.{Table, Sound, Cleared, Only, Inserted, Altered, Cut, put}
 use Rattle.tables.proofs.Lengths.{put-here, put-other, put-same}
 use Rattle.spare.specs.Spare.{no-spares, room, stamped, kept-spare, with-spare, layered}

@@ -11,7 +11,6 @@ use crate::spares::Spares;
 use tables::VersionTable;
 use words::Ending;
 use words::Refusal;
-use words::Status;
 use words::Version;
 
 // A table with one spare place beside each of its cells. The table is lent, the spare places are in
@@ -91,13 +90,7 @@ pub impl<'b, T: VersionTable> VersionTable for SpareLayer<'b, T> as SpareVersion
                 if has_stamp(self.below, cell, stamp) {
                     return Err(Refusal::StampTaken);
                 }
-                let version = Version {
-                    write: stamp,
-                    read: stamp,
-                    status: Status::Pending,
-                    value,
-                };
-                self.spares.put(cell, version);
+                self.spares.put(cell, Version::pending(stamp, value));
                 Ok(0)
             }
         }

@@ -16,7 +16,8 @@ use Rattle.words.specs.declared.version.Version.{Version}
 use Rattle.tables.specs.declared.call.TableCall.{TableCall}
 use Rattle.tables.specs.declared.call.TableCall.the-variants.{Clear, Cells, FreePlaces, Length, Version as VersionAt, Insert, Raise, Mark, Cut as CutAt}
 use Rattle.tables.specs.declared.call.Answer.{Answer}
-use Rattle.tables.specs.Versions.{new-version, holds, falls, at-stamp, raised, marked}
+use Rattle.words.specs.Version.{new-version}
+use Rattle.tables.specs.Versions.{holds, falls, at-stamp, raised, marked}
 use Rattle.tables.specs.Table.{Table, Cleared, Only, Inserted, Altered, Cut, put, insert-answer, raise-answer, mark-answer, cut-answer}
 use Rattle.tables.specs.Calls.{call-answer, Upon, Step, Reached, start, next, Strict}
 use Rattle.tables.proofs.Order.{falls-with, falls-at-stamp}

@@ -8,7 +8,8 @@ use lib.ListN.{length, getD}
 use Rattle.words.specs.Outcome.{Outcome, accepted, refuse}
 use Rattle.words.specs.declared.refusal.Refusal.the-variants.{NoCell, StampTaken, NoPlace, NoVersion}
 use Rattle.words.specs.declared.version.Version.{Version}
-use Rattle.tables.specs.Versions.{top, absent, first-version, new-version, sinks, holds, holds-pending, with-version, at-stamp, kept, cut-count}
+use Rattle.words.specs.Version.{absent, first-version, new-version}
+use Rattle.tables.specs.Versions.{top, sinks, holds, holds-pending, with-version, at-stamp, kept, cut-count}
 
 -- a fixed number of cells; for each cell its versions, newest first, and its free places
 pub record Table : Type 0 where

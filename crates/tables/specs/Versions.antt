@@ -6,7 +6,6 @@ use lib.Dec.{eqb, ltb, leb}
 use lib.ListN.{length}
 use Rattle.std.specs.shelf.Lists.{kept-by}
 use Rattle.words.specs.Status.{pending, ended}
-use Rattle.words.specs.declared.status.Status.the-variants.{Pending, Committed}
 use Rattle.words.specs.declared.status.Ending.{Ending}
 use Rattle.words.specs.declared.version.Version.{Version}
 
@@ -14,22 +13,10 @@ use Rattle.words.specs.declared.version.Version.{Version}
 abbrev pub top : ℕ
 top = 2 ^ 64 - 1
 
--- the version that every cell has after clear
-abbrev pub first-version : Version
-first-version = record { write = 0; read = 0; status = Committed; value = 0 }
-
--- the version that insert puts in: pending, both stamps equal
-abbrev pub new-version : ℕ → ℕ → Version
-new-version s x = record { write = s; read = s; status = Pending; value = x }
-
 -- each write stamp passes the test against the one before it, and the first against n
 abbrev pub ordered : (ℕ → ℕ → Bool) → ℕ → List Version → Bool
 ordered test n [] = true
 ordered test n (v ∷ vs) = test (v .write) n && ordered test (v .write) vs
-
--- what is read past a list's end; it is part of no answer
-abbrev pub absent : Version
-absent = record { write = 0; read = 0; status = Pending; value = 0 }
 
 -- no write stamp is above the one before it, and the first fits 64 bits
 abbrev pub sinks : List Version → Bool

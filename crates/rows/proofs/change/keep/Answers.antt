@@ -4,7 +4,7 @@ use native.Mathlib.Omega.{arith}
 use lib.ListN.{length, getD}
 use Rattle.std.proofs.shelf.Filters.{keeping-more-set, keeping-more-no}
 use Rattle.std.proofs.shelf.Lists.{getD-default}
-use Rattle.tables.specs.Versions.{absent}
+use Rattle.words.specs.Version.{absent}
 use Rattle.rows.proofs.change.keep.Needs as need
 use Rattle.rows.proofs.change.keep.Needs.{then-stays, else-stays}
 

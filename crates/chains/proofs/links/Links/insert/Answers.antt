@@ -3,8 +3,9 @@ use Prim.Native.Nat.{ℕ, _-_}
 use native.Mathlib.Omega.{arith}
 use Rattle.std.specs.declared.option.Option.{Option}
 use Rattle.std.specs.declared.option.Option.the-variants.{Some}
-use Rattle.tables.specs.Versions.{new-version}
+use Rattle.words.specs.declared.version.Version.{Version}
 use Rattle.chains.specs.declared.record.Record.{Record}
+use Rattle.chains.specs.Chain.{next-of}
 use Rattle.chains.specs.Store.{Store, store, moved}
 use Rattle.chains.proofs.Inserts.{no-place, same-unused, some-free, free-used, newer-used, InsertDone, inserts, insert-answers}
 use Rattle.chains.proofs.links.Links.insert.Needs as need
@@ -43,11 +44,11 @@ returns c =
     let f = c .in-Some .free in
     let newer = c .place-place .result .newer in
     let older = c .place-place .result .older in
-    let r : Record = record { version = new-version (c .args .stamp) (c .args .value); next = older } in
+    let fresh = ap (λ (v : Version). moved s cell newer (Some f) f (record { version = v; next = older }) (next-of (s .records) f) (s .count - 1)) (c .pending-version .ensures) in
     let fl = c .record-next .result .next in
     let freed = ap (λ (z : Store). record { heads = z .heads; records = z .records; cells = z .cells; used = z .used; free = fl; count = z .count - 1 }) (c .relink .ensures) in
-    let next = ap (λ (l : Option ℕ). moved s cell newer (Some f) f r l (s .count - 1)) (ap (λ (z : Record). z .next) (c .record-next .ensures)) in
-    let done = subst⁻¹ (λ (z : Store). InsertDone s z cell (c .args .stamp) (c .args .value)) (freed ∙ next) (inserts s k cell (c .pre .within) (c .args .stamp) (c .args .value) (omega arith) f (c .in-Some .is) newer older (c .place-place .ensures)) in
+    let next = ap (λ (l : Option ℕ). moved s cell newer (Some f) f (record { version = c .pending-version .result; next = older }) l (s .count - 1)) (ap (λ (z : Record). z .next) (c .record-next .ensures)) in
+    let done = subst⁻¹ (λ (z : Store). InsertDone s z cell (c .args .stamp) (c .args .value)) (freed ∙ next ∙ fresh) (inserts s k cell (c .pre .within) (c .args .stamp) (c .args .value) (omega arith) f (c .in-Some .is) newer older (c .place-place .ensures)) in
     let new = sym (c .if-is-some .ensures tt ∙ c .find .ensures .test) in
     record {
       kept = done .kept;

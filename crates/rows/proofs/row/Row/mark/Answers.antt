@@ -3,7 +3,8 @@ use mathlib.Core.List.{List}
 use lib.ListN.{getD, set}
 use Rattle.words.specs.Status.{pending}
 use Rattle.words.specs.declared.version.Version.{Version}
-use Rattle.tables.specs.Versions.{absent, holds, marked}
+use Rattle.words.specs.Version.{absent}
+use Rattle.tables.specs.Versions.{holds, marked}
 use Rattle.tables.proofs.Holds.{none-pending}
 use Rattle.rows.specs.Row.{row-list}
 use Rattle.rows.specs.Search.{First}

@@ -3,7 +3,8 @@ use mathlib.Core.List.{List}
 use Prim.Native.Nat.{ℕ}
 use lib.ListN.{getD, set}
 use Rattle.words.specs.declared.version.Version.{Version}
-use Rattle.tables.specs.Versions.{absent, raised}
+use Rattle.words.specs.Version.{absent}
+use Rattle.tables.specs.Versions.{raised}
 use Rattle.rows.specs.Row.{row-list}
 use Rattle.rows.specs.Search.{First}
 use Rattle.rows.proofs.Found.{found-holds, found-changed}

@@ -1,6 +1,8 @@
-use mathlib.Core.Path.{refl, subst⁻¹}
+use mathlib.Core.Path.{refl, ap, subst⁻¹, _∙_}
 use native.Mathlib.Omega.{arith}
-use Rattle.tables.specs.Table.{Table, Inserted}
+use Rattle.std.specs.declared.option.Option.the-variants.{Some}
+use Rattle.words.specs.declared.version.Version.{Version}
+use Rattle.tables.specs.Table.{Table, Inserted, put}
 use Rattle.spare.specs.Spare.{spare-at, layered}
 use Rattle.spare.proofs.Beside.{is-stamped, not-stamped}
 use Rattle.spare.proofs.Answered.{insert-below, insert-spare, insert-taken}
@@ -38,7 +40,7 @@ returns-else-has-stamp g c =
     let t = g .T·VersionTable .meaning (self .below .now) in
     let spares = spare-at (self .spares .places) in
     let spares′ = spare-at (c .put .last .self .places) in
-    let done = spare-insert spares spares′ t (c .args .cell) (c .args .stamp) (c .args .value) (c .in-None .ensures tt) (c .put .ensures) in
+    let done = spare-insert spares spares′ t (c .args .cell) (c .args .stamp) (c .args .value) (c .in-None .ensures tt) (c .put .ensures ∙ ap (λ (v : Version). put spares (c .args .cell) (Some v)) (c .pending .ensures)) in
     record {
       answer = insert-spare spares t (c .args .cell) (c .args .stamp) (omega (arith, c .cells .ensures)) (c .in-None .ensures tt) (c .if-has-stamp .ensures tt .answer);
       after = subst⁻¹ (λ (u : Table). Inserted (layered spares t) (layered spares′ u) (c .args .cell) (c .args .stamp) (c .args .value)) (c .has-stamp .ensures .after) done;
