@@ -4,3 +4,4 @@ pub mod Sets
 pub mod Search
 pub mod Rules
 pub mod Cases
+pub mod Refused

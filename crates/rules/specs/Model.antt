@@ -1,6 +1,6 @@
 -- The model of a map: what the rules speak of.
 use mathlib.Core.List.{List}
-use Prim.Native.Nat.{ℕ, _-_, min, max}
+use Prim.Native.Nat.{ℕ, min, max}
 use Rattle.words.specs.declared.version.Version.{Version}
 use Rattle.tables.specs.Table.{Table, cleared, put}
 use Rattle.rules.specs.declared.entry.ReadEntry.{ReadEntry}

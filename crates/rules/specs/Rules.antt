@@ -20,7 +20,7 @@ use Rattle.rules.specs.declared.entry.ReadEntry.{ReadEntry}
 use Rattle.rules.specs.declared.entry.WriteEntry.{WriteEntry}
 use Rattle.rules.specs.declared.call.Call.{Call}
 use Rattle.rules.specs.declared.call.Call.the-variants.{Begin, Pulse, Sync, Read, Write, Seal, Install, Stamp, Check, Commit, Abort, Look, Close, Show, Commits, Collect}
-use Rattle.rules.specs.Model.{Stage, idle, open′, sealed, looking, Worker, Model, table-of, with-worker, with-list, with-lists, with-commits, at-stage}
+use Rattle.rules.specs.Model.{Stage, idle, open′, sealed, looking, Model, table-of, with-worker, with-list, with-lists, with-commits, at-stage}
 use Rattle.rules.specs.Stamps.{last-clock, adjusted, ticked, timestamp, last-stamp, floor, keep-line}
 use Rattle.rules.specs.Sets.{find-read, find-write, full, replaced, nth}
 use Rattle.rules.specs.Search.{visible, newest, newest-below, search}

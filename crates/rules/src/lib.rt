@@ -3,10 +3,10 @@
 //
 // Nothing here performs a call.
 mod call;
-mod cases;
 mod entry;
+mod standing;
 
 pub use call::Call;
-pub use cases::cases_stand;
 pub use entry::ReadEntry;
 pub use entry::WriteEntry;
+pub use standing::rules_stand;
