@@ -1,0 +1,14 @@
+pub mod Under
+pub mod Searches
+pub mod State
+pub mod Prefixes
+pub mod Cross
+pub mod Moves
+pub mod Opens
+pub mod Goes
+pub mod Installs
+pub mod Ends
+pub mod Cuts
+pub mod Newest
+pub mod Serial
+pub mod Locals
