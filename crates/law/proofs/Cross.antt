@@ -4,6 +4,7 @@ use mathlib.Core.Logic.{⊎-elim}
 use mathlib.Core.Bool.{true, false}
 use Prim.Native.Nat.{ℕ, _+_, _*_, _-_, _<_, _≤_}
 use native.Mathlib.Omega.{arith}
+use lib.ListN.{take}
 use Rattle.std.specs.declared.option.Option.{Option}
 use Rattle.std.specs.declared.option.Option.the-variants.{Some, None}
 use Rattle.std.proofs.shelf.Tests.{cases-eq, cases-lt, cases-bool}
@@ -12,9 +13,9 @@ use Rattle.words.specs.declared.status.Status.the-variants.{Pending, Committed,
 use Rattle.words.specs.declared.version.Version.{Version}
 use Rattle.rules.specs.declared.entry.ReadEntry.{ReadEntry}
 use Rattle.rules.specs.Sets.{nth}
-use Rattle.law.proofs.State.{Progress, State, W, R, value-in, checked, committed, Stands, Inv}
+use Rattle.law.proofs.State.{Progress, State, W, R, value-in, checked, committed, Runs, Stands, Inv}
 use Rattle.law.proofs.Prefixes.{value-longer, value-part, take-all}
-use Rattle.law.proofs.Searches.{Finds}
+use Rattle.law.proofs.Searches.{Finds, Lacks}
 
 not-aborted : (x : Version) → x .status ≡ Committed → x .status ≡ Aborted → ⊥
 not-aborted x p q = let z : _≡_ {A = ℕ} 0 1 = cc in omega arith
@@ -81,3 +82,21 @@ module _ (s : State) (line : ℕ) (inv : Inv s line) where
       let low = found .low in
       inv .crossing t (x .write) P (q .0) j (x .value) g is (q .1) at far (subst (λ d. checked (q .0) d ≡ Some (x .value)) (sym same) all) (omega arith) (omega arith))
       (cases-eq (x .write) (g .stamp))
+
+  -- a search below a stamp that the keep line is not above always meets a version that counts
+  pub never-lacks : (c f : ℕ) → c < s .cells → 0 < f → line ≤ f → Lacks (λ g. g ≡ Aborted) f (s .at c) → ⊥
+  never-lacks c f in′ pos le none =
+      let a = cover c 0 0 f (grind (arith, tells)) pos le in
+      not-aborted (a .1 .0) (a .1 .2) (none (a .0) (a .1 .0) (a .1 .1) (a .3))
+
+  -- a pending version's stamp is that of a pass that runs and has done a step
+  pub pending-runs : (c t : ℕ) (x : Version) → s .at c t ≡ Some x → x .status ≡ Pending → (P : Progress) × Runs s t P × (0 < P .k)
+  pending-runs c t x h still =
+      let o = inv .agrees .owned c t x h still in (
+        o .0,
+        o .1,
+        ⊎-elim
+            (λ (some : 0 < o .0 .k). some)
+            (λ (none : o .0 .k ≤ 0). absurd (let z = subst (λ k. value-in (take k (o .0 .writes)) c ≡ Some (x .value)) (let y : o .0 .k ≡ 0 = omega arith in y) (o .2) in grind arith))
+            (cases-lt 0 (o .0 .k)),
+      )

@@ -20,7 +20,7 @@ use Rattle.tables.specs.Versions.{marked}
 use Rattle.rules.specs.Sets.{nth}
 use Rattle.law.proofs.Under.{change}
 use Rattle.law.proofs.State.{Progress, State, W, R, value-in, installed, checked, committed, committed-by, Runs, Stands, Apart, Agrees, Inv}
-use Rattle.law.proofs.Prefixes.{take-all}
+use Rattle.law.proofs.Prefixes.{some-same, take-all}
 use Rattle.law.proofs.Moves.{put-cases, put-here, put-there, positive}
 
 -- the pass once it is committed
@@ -42,11 +42,8 @@ module _ (s : State) (line : ℕ) (inv : Inv s line) (t : ℕ) (P : Progress) (r
     where
       by : (o : Option ℕ) → installed P c ≡ o → (x .status ≡ Pending) × (installed P c ≡ Some (x .value))
       by None i = absurd (let z = inv .agrees .missing t P c runs i in grind arith)
-      by (Some v) i = let y = inv .agrees .there t P c v runs i in let q : y .0 ≡ x = same (y .0) x (sym (y .1) ∙ h) in
+      by (Some v) i = let y = inv .agrees .there t P c v runs i in let q : y .0 ≡ x = some-same (y .0) x (sym (y .1) ∙ h) in
           (subst (λ (z : Version). z .status ≡ Pending) q (y .2), i ∙ ap Some (sym (y .3) ∙ ap (λ (z : Version). z .value) q))
-        where
-          same : (a b : Version) → Some a ≡ Some b → a ≡ b
-          same a b e = cc
 
   -- elsewhere nothing changes, and there only statuses do
   at-apart : (c u : ℕ) → (u ≡ t → ⊥) → at c u ≡ s .at c u
@@ -63,11 +60,8 @@ module _ (s : State) (line : ℕ) (inv : Inv s line) (t : ℕ) (P : Progress) (r
     where
       by : u ≡ t → (o : Option Version) → s .at c u ≡ o → (x : Version) × (s .at c u ≡ Some x) × (y .value ≡ x .value) × (y .read ≡ x .read) × (((u ≡ t) × (y .status ≡ ended how)) ⊎ ((u ≡ t → ⊥) × (y .status ≡ x .status)))
       by q None e = absurd (let z = ending c u in grind (arith, tells))
-      by q (Some x) e = let m : y ≡ marked how x = same y x (let z = ending c u in grind (arith, tells)) in
+      by q (Some x) e = let m : y ≡ marked how x = some-same y (marked how x) (let z = ending c u in grind (arith, tells)) in
           (x, e, ap (λ (z : Version). z .value) m, ap (λ (z : Version). z .read) m, inl (q, ap (λ (z : Version). z .status) m))
-        where
-          same : (a b : Version) → Some a ≡ Some (marked how b) → a ≡ marked how b
-          same a b e = cc
 
   not-yet : (c v : ℕ) → committed s c t ≡ Some v → ⊥
   not-yet c v h = let p = pos in let e = runs .0 in let r = runs .1 in absurd (grind (arith, tells))
@@ -159,14 +153,11 @@ module _ (s : State) (line : ℕ) (inv : Inv s line) (t : ℕ) (P : Progress) (r
     (at : ℕ → ℕ → Option Version) where
   pub commits : P .k ≡ 2 * (W P + R P) → ((c u : ℕ) → at c u ≡ cond (eqb t u) (change (marked Commit) (s .at c u)) (s .at c u)) → Inv (left s t (Some (full-of P)) at) line
   commits all ending = ends s line inv t P runs Commit (Some (full-of P)) at ending
-      (λ Q e. (sym (same (full-of P) Q e), all))
+      (λ Q e. (sym (some-same (full-of P) Q e), all))
       (λ e. let z : _≡_ {A = ℕ} 0 1 = cc in omega arith)
       (λ c x h _. sym (whole c) ∙ its-version s line inv t P runs Commit (Some (full-of P)) at ending c x h .1)
       (λ c v h. let x = inv .agrees .there t P c v runs (whole c ∙ h) in (refl, (x .0, x .1)))
     where
-      same : (A B : Progress) → Some A ≡ Some B → A ≡ B
-      same A B e = cc
-
       whole : (c : ℕ) → installed P c ≡ value-in (P .writes) c
       whole c = ap (λ ws. value-in ws c) (take-all (P .k) (P .writes) (omega arith))
 

@@ -1,7 +1,7 @@
 pub mod Under
-pub mod Searches
 pub mod State
 pub mod Prefixes
+pub mod Searches
 pub mod Cross
 pub mod Moves
 pub mod Opens

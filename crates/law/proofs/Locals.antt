@@ -16,6 +16,7 @@ use Rattle.rules.specs.declared.entry.ReadEntry.{ReadEntry}
 use Rattle.rules.specs.declared.entry.WriteEntry.{WriteEntry}
 use Rattle.rules.specs.Sets.{find-read, find-write, replaced, nth}
 use Rattle.law.specs.Plain.{Op, reads, writes, after-ops}
+use Rattle.law.proofs.Prefixes.{some-same}
 use Rattle.law.proofs.State.{value-in, Apart}
 use Rattle.law.proofs.Newest.{over, ops-leave}
 use Rattle.law.proofs.Serial.{Local}
@@ -71,15 +72,9 @@ replaced-nth [] e j f h = absurd (grind arith)
 replaced-nth (g ∷ gs) e j f h = by (eqb (g .cell) (e .cell)) refl (eqb j 0) refl (λ h′. replaced-nth gs e (j - 1) f h′)
   where
     by : (b : Bool) → eqb (g .cell) (e .cell) ≡ b → (z : Bool) → eqb j 0 ≡ z → (nth (replaced e gs) (j - 1) ≡ Some f → (o : WriteEntry) × (nth gs (j - 1) ≡ Some o) × (o .cell ≡ f .cell)) → (o : WriteEntry) × (nth (g ∷ gs) j ≡ Some o) × (o .cell ≡ f .cell)
-    by true p true q ih = (g, grind arith, eqb-true (g .cell) (e .cell) p ∙ ap (λ (z : WriteEntry). z .cell) (same e f (grind arith)))
-      where
-        same : (a b : WriteEntry) → Some a ≡ Some b → a ≡ b
-        same a b r = cc
+    by true p true q ih = (g, grind arith, eqb-true (g .cell) (e .cell) p ∙ ap (λ (z : WriteEntry). z .cell) (some-same e f (grind arith)))
     by true p false q ih = (f, grind arith, refl)
-    by false p true q ih = (g, grind arith, ap (λ (z : WriteEntry). z .cell) (same g f (grind arith)))
-      where
-        same : (a b : WriteEntry) → Some a ≡ Some b → a ≡ b
-        same a b r = cc
+    by false p true q ih = (g, grind arith, ap (λ (z : WriteEntry). z .cell) (some-same g f (grind arith)))
     by false p false q ih = let r = ih (grind arith) in (r .0, let z = r .1 in grind arith, r .2)
 
 replaced-part : (ws : List WriteEntry) (e : WriteEntry) (j d : ℕ) → value-in (take j ws) d ≡ None → value-in (take j (replaced e ws)) d ≡ None
@@ -119,12 +114,9 @@ local-own ops rs ws c e own l = record {
 find-nth : (c : ℕ) (rs : List ReadEntry) (g : ReadEntry) → find-read c rs ≡ Some g → (j : ℕ) × (nth rs j ≡ Some g) × (g .cell ≡ c)
 find-nth c [] g h = absurd (grind arith)
 find-nth c (r ∷ rs) g h = ⊎-elim
-    (λ (b : eqb (r .cell) c ≡ true). (0, grind arith, ap (λ (z : ReadEntry). z .cell) (same g r (grind arith)) ∙ eqb-true (r .cell) c b))
+    (λ (b : eqb (r .cell) c ≡ true). (0, grind arith, ap (λ (z : ReadEntry). z .cell) (some-same g r (grind arith)) ∙ eqb-true (r .cell) c b))
     (λ (b : eqb (r .cell) c ≡ false). let f = find-nth c rs g (grind arith) in (suc (f .0), let z = f .1 in grind (arith, tells), f .2))
     (cases-bool (eqb (r .cell) c))
-  where
-    same : (a b : ReadEntry) → Some a ≡ Some b → a ≡ b
-    same a b e = cc
 
 unwritten : (ops : List Op) (rs : List ReadEntry) (ws : List WriteEntry) (c : ℕ) (a : ℕ → ℕ) → find-write c ws ≡ None → Local ops rs ws → after-ops ops a c ≡ a c
 unwritten ops rs ws c a none l = ops-leave ops a c ∙ ap (λ o. over o (a c)) (l .last c ∙ value-found c ws ∙ ap value-of none)

@@ -12,6 +12,7 @@ use Rattle.words.specs.declared.version.Version.{Version}
 use Rattle.tables.specs.Table.{put}
 use Rattle.rules.specs.declared.entry.ReadEntry.{ReadEntry}
 use Rattle.rules.specs.Sets.{nth}
+use Rattle.law.proofs.Prefixes.{some-same}
 use Rattle.law.proofs.State.{Progress, State, W, R, checked, committed, committed-by, Apart, Agrees, Inv}
 
 -- a changed function, at the place of the change and elsewhere
@@ -56,9 +57,6 @@ module _ (s : State) (t : ℕ) (P : Progress) (at : ℕ → ℕ → Option Versi
   -- a pass afterwards is P, or was there before
   pub pass-moved : (u : ℕ) (Q : Progress) → moved s t P at .pass u ≡ Some Q → ((u ≡ t) × (Q ≡ P)) ⊎ ((u ≡ t → ⊥) × (s .pass u ≡ Some Q))
   pass-moved u Q h = ⊎-elim (λ a. inl (a .0, some-same Q P (sym (a .1)))) (λ a. inr a) (put-cases (s .pass) t (Some P) u Q h)
-    where
-      some-same : (A B : Progress) → Some A ≡ Some B → A ≡ B
-      some-same A B e = cc
 
   pub advance : (line : ℕ) → Inv s line → line ≤ t → Agrees (moved s t P at) line → Apart (P .writes)
       → ((j : ℕ) (g : ReadEntry) → nth (P .reads) j ≡ Some g → (g .stamp < t) × (committed s (g .cell) (g .stamp) ≡ Some (g .value)))

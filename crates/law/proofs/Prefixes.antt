@@ -1,4 +1,4 @@
--- Parts of sets.
+-- Parts of sets, and the one entry that is found.
 use mathlib.Core.Path.{_≡_, refl}
 use mathlib.Core.List.{List, [], _∷_}
 use mathlib.Core.Logic.{_⊎_, inl, inr, ⊎-elim}
@@ -14,6 +14,9 @@ use Rattle.std.proofs.shelf.Ways.{tells}
 use Rattle.rules.specs.declared.entry.WriteEntry.{WriteEntry}
 use Rattle.rules.specs.Sets.{nth}
 use Rattle.law.proofs.State.{value-in}
+
+pub some-same : {A : Type 0} (a b : A) → Some a ≡ Some b → a ≡ b
+some-same a b e = cc
 
 -- what stands in a part stands in a longer one
 pub value-longer : (m n : ℕ) (ws : List WriteEntry) (c v : ℕ) → m ≤ n → value-in (take m ws) c ≡ Some v → value-in (take n ws) c ≡ Some v

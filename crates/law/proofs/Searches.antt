@@ -3,8 +3,9 @@ use mathlib.Core.Path.{_≡_, refl, sym, subst}
 use mathlib.Core.Logic.{_⊎_, inl, inr, ⊎-elim}
 use mathlib.Core.List.{List, [], _∷_}
 use mathlib.Core.Bool.{Bool, true, false, cond}
-use Prim.Native.Nat.{ℕ, _≤_, _<_}
+use Prim.Native.Nat.{ℕ, _≤_, _<_, _^_}
 use native.Mathlib.Omega.{arith}
+use lib.ListN.{length}
 use lib.Dec.{eqb, ltb}
 use Rattle.std.specs.declared.option.Option.{Option}
 use Rattle.std.specs.declared.option.Option.the-variants.{Some, None}
@@ -16,9 +17,10 @@ use Rattle.words.specs.declared.refusal.Refusal.the-variants.{Wait}
 use Rattle.words.specs.declared.status.Status.{Status}
 use Rattle.words.specs.declared.status.Status.the-variants.{Pending, Committed, Aborted}
 use Rattle.words.specs.declared.version.Version.{Version}
-use Rattle.tables.specs.Versions.{ordered, falls}
-use Rattle.rules.specs.Search.{by-status, visible, newest, newest-below}
+use Rattle.tables.specs.Versions.{top, ordered, sinks, falls}
+use Rattle.rules.specs.Search.{reach, by-status, visible, newest, newest-below}
 use Rattle.law.proofs.Under.{under}
+use Rattle.law.proofs.Prefixes.{take-all}
 
 -- nothing stands under a stamp that is not below the first
 pub none-above : (n t : ℕ) (vs : List Version) → ordered ltb n vs ≡ true → n ≤ t → under t vs ≡ None
@@ -131,3 +133,12 @@ newest-says s (v ∷ vs) h = by (ltb (v .write) s) refl (v .status) refl (newest
 pub newest-bounded : (s : ℕ) (vs : List Version) → ordered ltb s vs ≡ true → newest vs ≡ newest-below s vs
 newest-bounded s [] h = refl
 newest-bounded s (v ∷ vs) h = grind (arith, tells, newest-bounded s vs, ordered-weaker (v .write) s vs)
+
+-- a list that falls and fits 64 bits is within reach of every search
+length-bound : (n : ℕ) (vs : List Version) → ordered ltb n vs ≡ true → length vs ≤ n
+length-bound n [] h = omega arith
+length-bound n (v ∷ vs) h = let r = length-bound (v .write) vs (grind (arith, tells)) in grind (arith, tells)
+
+pub all-reached : (vs : List Version) → sinks vs ≡ true → falls vs ≡ true → reach vs ≡ vs
+all-reached [] low h = refl
+all-reached (v ∷ vs) low h = take-all (2 ^ 64) (v ∷ vs) (let r = length-bound (v .write) vs h in let z : v .write ≤ top = grind (arith, tells) in omega arith)
