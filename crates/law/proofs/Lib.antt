@@ -12,3 +12,4 @@ pub mod Cuts
 pub mod Newest
 pub mod Serial
 pub mod Locals
+pub mod Marks
