@@ -13,3 +13,4 @@ pub mod Newest
 pub mod Serial
 pub mod Locals
 pub mod Marks
+pub mod Lines
