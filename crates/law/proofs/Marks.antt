@@ -1,7 +1,7 @@
 -- What commit and abort make of the lists, by stamps: every version of the pass ends, and no other.
 use mathlib.Core.Path.{_≡_, refl, sym, ap, subst, _∙_}
 use mathlib.Core.Logic.{⊎-elim}
-use mathlib.Core.Bool.{Bool, true, false, cond, _&&_}
+use mathlib.Core.Bool.{true, false, cond, _&&_}
 use mathlib.Core.List.{List, [], _∷_}
 use Prim.Native.Nat.{ℕ, suc, _<_}
 use native.Mathlib.Omega.{arith}
@@ -10,6 +10,7 @@ use Rattle.std.specs.declared.option.Option.{Option}
 use Rattle.std.specs.declared.option.Option.the-variants.{Some, None}
 use borrow.Author.Tests.{eqb-true}
 use Rattle.std.proofs.shelf.Tests.{cases-eq, cases-bool}
+use Rattle.std.specs.Options.{isSome}
 use Rattle.std.proofs.shelf.Ways.{tells}
 use Rattle.words.specs.Status.{pending}
 use Rattle.words.specs.declared.status.Status.the-variants.{Pending}
@@ -49,10 +50,6 @@ apart-rest e es apart j f h = let z = apart (suc j) f (grind (arith, tells)) in 
 abbrev pub Markable : ℕ → ℕ → (ℕ → List Version) → List WriteEntry → Type 0
 Markable cells t ls ws = (c v : ℕ) → value-in ws c ≡ Some v → (c < cells) × ((x : Version) × (under t (ls c) ≡ Some x) × (x .status ≡ Pending))
 
-abbrev has : Option ℕ → Bool
-has None = false
-has (Some v) = true
-
 module _ (how : Ending) (cells t : ℕ) where
   -- one mark
   one-marked : (ls : ℕ → List Version) (e : WriteEntry) (x : Version) → e .cell < cells → under t (ls (e .cell)) ≡ Some x → x .status ≡ Pending
@@ -63,7 +60,7 @@ module _ (how : Ending) (cells t : ℕ) where
 
   -- all marks of a pass
   pub all-marked : (ws : List WriteEntry) (ls : ℕ → List Version) → Apart ws → Markable cells t ls ws
-      → (c u : ℕ) → under u (ended-all how cells t ls ws c) ≡ cond (eqb t u && has (value-in ws c)) (change (marked how) (under u (ls c))) (under u (ls c))
+      → (c u : ℕ) → under u (ended-all how cells t ls ws c) ≡ cond (eqb t u && isSome (value-in ws c)) (change (marked how) (under u (ls c))) (under u (ls c))
   all-marked [] ls apart able c u = grind arith
   all-marked (e ∷ es) ls apart able c u = step (all-marked es (ended-one how cells t ls e) (apart-rest e es apart) later c u)
     where
@@ -87,8 +84,8 @@ module _ (how : Ending) (cells t : ℕ) where
           (r .0, (r .1 .0, ap (under t) (elsewhere d n) ∙ r .1 .1, r .1 .2)))
           (cases-eq d (e .cell))
 
-      step : under u (ended-all how cells t (ended-one how cells t ls e) es c) ≡ cond (eqb t u && has (value-in es c)) (change (marked how) (under u (ended-one how cells t ls e c))) (under u (ended-one how cells t ls e c))
-          → under u (ended-all how cells t (ended-one how cells t ls e) es c) ≡ cond (eqb t u && has (value-in (e ∷ es) c)) (change (marked how) (under u (ls c))) (under u (ls c))
+      step : under u (ended-all how cells t (ended-one how cells t ls e) es c) ≡ cond (eqb t u && isSome (value-in es c)) (change (marked how) (under u (ended-one how cells t ls e c))) (under u (ended-one how cells t ls e c))
+          → under u (ended-all how cells t (ended-one how cells t ls e) es c) ≡ cond (eqb t u && isSome (value-in (e ∷ es) c)) (change (marked how) (under u (ls c))) (under u (ls c))
       step ih = ⊎-elim
           (λ (q : c ≡ e .cell).
           let a : value-in es c ≡ None = subst (λ d. value-in es d ≡ None) (sym q) alone in

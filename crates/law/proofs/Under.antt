@@ -2,12 +2,13 @@
 -- and cut change it. The other proofs use these facts and do not look into a list.
 use mathlib.Core.Path.{_≡_, refl}
 use mathlib.Core.List.{List, [], _∷_}
-use mathlib.Core.Bool.{Bool, true, false, cond}
+use mathlib.Core.Bool.{Bool, false, cond}
 use Prim.Native.Nat.{ℕ}
 use native.Mathlib.Omega.{arith}
 use lib.Dec.{eqb, leb}
 use Rattle.std.specs.declared.option.Option.{Option}
 use Rattle.std.specs.declared.option.Option.the-variants.{Some, None}
+use Rattle.std.specs.Options.{isSome}
 use Rattle.std.proofs.shelf.Ways.{tells}
 use Rattle.words.specs.Status.{pending}
 use Rattle.words.specs.declared.version.Version.{Version}
@@ -42,15 +43,11 @@ under-kept t s [] = grind arith
 under-kept t s (v ∷ vs) = grind (arith, tells, under-kept t s vs)
 
 -- the tests of a list, by its stamps
-abbrev pub some : Option Version → Bool
-some None = false
-some (Some v) = true
-
 abbrev pub some-pending : Option Version → Bool
 some-pending None = false
 some-pending (Some v) = pending (v .status)
 
-pub holds-under : (t : ℕ) (vs : List Version) → holds t vs ≡ some (under t vs)
+pub holds-under : (t : ℕ) (vs : List Version) → holds t vs ≡ isSome (under t vs)
 holds-under t [] = refl
 holds-under t (v ∷ vs) = grind (arith, tells, holds-under t vs)
 

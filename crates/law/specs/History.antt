@@ -1,8 +1,8 @@
 -- What calls and their answers say that passes and looks did. Refused calls say nothing.
-use mathlib.Core.Bool.{Bool, true, false, cond}
+use mathlib.Core.Bool.{Bool, true, false}
 use mathlib.Core.List.{List, [], _∷_}
 use Prim.Native.Nat.{ℕ, _+_}
-use lib.Dec.{eqb}
+use Rattle.tables.specs.Table.{put}
 use Rattle.words.specs.Outcome.{Outcome, accepted, refused}
 use Rattle.rules.specs.declared.call.Call.{Call}
 use Rattle.rules.specs.declared.call.Call.the-variants.{Begin, Pulse, Sync, Read, Write, Seal, Install, Stamp, Check, Commit, Abort, Look, Close, Show, Commits, Collect}
@@ -35,14 +35,11 @@ pub record History : Type 0 where
 abbrev pub no-history : History
 no-history = record { doing = λ w. nothing; last = λ w. 256 + w; passes = []; glances = [] }
 
-abbrev at-worker : {A : Type 0} → (ℕ → A) → ℕ → A → ℕ → A
-at-worker f w x i = cond (eqb i w) x (f i)
-
 abbrev pub now-doing : History → ℕ → Doing → History
-now-doing h w d = record { doing = at-worker (h .doing) w d; last = h .last; passes = h .passes; glances = h .glances }
+now-doing h w d = record { doing = put (h .doing) w d; last = h .last; passes = h .passes; glances = h .glances }
 
 abbrev pub stamped : History → ℕ → ℕ → History
-stamped h w s = record { doing = h .doing; last = at-worker (h .last) w s; passes = h .passes; glances = h .glances }
+stamped h w s = record { doing = h .doing; last = put (h .last) w s; passes = h .passes; glances = h .glances }
 
 -- an operation of a running pass
 abbrev pub with-op : Op → Doing → Doing
@@ -70,7 +67,7 @@ with-pass (in-look f) ps = ps
 abbrev pub has-read : History → ℕ → ℕ → ℕ → History
 has-read h w c v =
     record {
-      doing = at-worker (h .doing) w (with-op (reads c v) (h .doing w));
+      doing = put (h .doing) w (with-op (reads c v) (h .doing w));
       last = h .last;
       passes = h .passes;
       glances = with-glance c v (h .doing w) (h .glances);
@@ -79,7 +76,7 @@ has-read h w c v =
 abbrev pub has-committed : History → ℕ → History
 has-committed h w =
     record {
-      doing = at-worker (h .doing) w nothing;
+      doing = put (h .doing) w nothing;
       last = h .last;
       passes = with-pass (h .doing w) (h .passes);
       glances = h .glances;
