@@ -1,6 +1,6 @@
 -- Rewriting the version of the record that was found is changing the first version of that stamp.
 use Rattle.std.proofs.Common.{◌≡◌, ℕ, ◌<◌, false, leb, List, [], ◌∷◌, ◌++◌, map, get_or, drop, None, sym, refl, ap, ◌∙◌, arith}
-use Rattle.std.proofs.lemmas.List.{map_append, drop_set_lt}
+use Rattle.std.proofs.lemmas.List.{map-append, drop-set-lt}
 use Rattle.std.proofs.lemmas.Bool.Decides.{nat_tests}
 use Rattle.words.specs.Status.{pending}
 use Rattle.words.specs.declared.version.Version.{Version}
@@ -35,7 +35,7 @@ module _ (s : Store) (kept : Kept s) (c : ℕ) (in' : c < s.cells) (stamp i : �
   split = ap (path s.records) (own_head s c in') ∙ found.split
 
   parts : list s c ≡ map (version_of s.records) found.front ++ (version_of s.records i ∷ map (version_of s.records) found.back)
-  parts = own_list s c in' ∙ ap (map (version_of s.records)) found.split ∙ map_append (version_of s.records) found.front (i ∷ found.back)
+  parts = own_list s c in' ∙ ap (map (version_of s.records)) found.split ∙ map-append (version_of s.records) found.front (i ∷ found.back)
 
   pub found_used : i < s.used
   found_used = within s kept c i (omega arith) (omega (arith, ap (count i) split, count_append i found.front (i ∷ found.back), count_first i found.back))
@@ -54,5 +54,5 @@ module _ (s : Store) (kept : Kept s) (c : ℕ) (in' : c < s.cells) (stamp i : �
         record {
           kept = done.kept;
           altered = record { only = record { cells = refl; versions = done.lists ∙ ap (put (list s) c) (sym changed) }; free = λ q. refl };
-          unused = record { cells = refl; used = refl; heads = refl; records = drop_set_lt s.used s.records i _ found_used };
+          unused = record { cells = refl; used = refl; heads = refl; records = drop-set-lt s.used s.records i _ found_used };
         }

@@ -1,7 +1,7 @@
 -- A kept store after one call: which lists it has, and that it is kept.
 use Rattle.std.proofs.Common.{◌≡◌, ℕ, ◌-◌, ◌<◌, true, cond, ltb, List, [], sym, ap, ◌∙◌, subst, ⊎_elim, arith}
 use mathlib.Core.Path.{fun_ext}
-use Rattle.std.proofs.lemmas.Bool.{cases_lt, cases_eq, lt_ltb, le_ltb}
+use Rattle.std.proofs.lemmas.Bool.{cases_lt, cases_eq, lt-ltb, le-ltb}
 use Rattle.words.specs.declared.version.Version.{Version}
 use Rattle.tables.specs.Versions.{sinks}
 use Rattle.tables.specs.Table.{put}
@@ -30,11 +30,11 @@ lists_by s s' c vs in' same here other =
     fun_ext (λ a.
     ⊎_elim
     (λ (z : a ≡ c). subst (λ (k : ℕ). list s' k ≡ put (list s) c vs k) (sym z)
-    (ap (λ b. cond b (along s'.records (link s' c)) []) (lt_ltb c s'.cells (omega arith)) ∙ here ∙ sym (put_here (list s) c vs)))
+    (ap (λ b. cond b (along s'.records (link s' c)) []) (lt-ltb c s'.cells (omega arith)) ∙ here ∙ sym (put_here (list s) c vs)))
     (λ ne. ⊎_elim
     (λ (l : a < s.cells).
-    ap (λ b. cond b (along s'.records (link s' a)) []) (lt_ltb a s'.cells (omega arith)) ∙ other a l ne ∙ sym (put_other (list s) c vs a ne ∙ ap (λ b. cond b (along s.records (link s a)) []) (lt_ltb a s.cells l)))
+    ap (λ b. cond b (along s'.records (link s' a)) []) (lt-ltb a s'.cells (omega arith)) ∙ other a l ne ∙ sym (put_other (list s) c vs a ne ∙ ap (λ b. cond b (along s.records (link s a)) []) (lt-ltb a s.cells l)))
     (λ l.
-    ap (λ b. cond b (along s'.records (link s' a)) []) (le_ltb a s'.cells (omega arith)) ∙ sym (put_other (list s) c vs a ne ∙ ap (λ b. cond b (along s.records (link s a)) []) (le_ltb a s.cells l)))
+    ap (λ b. cond b (along s'.records (link s' a)) []) (le-ltb a s'.cells (omega arith)) ∙ sym (put_other (list s) c vs a ne ∙ ap (λ b. cond b (along s.records (link s a)) []) (le-ltb a s.cells l)))
     (cases_lt a s.cells))
     (cases_eq a c))

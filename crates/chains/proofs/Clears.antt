@@ -1,7 +1,7 @@
 -- The memory of a cleared table: each cell has one record, and the others are free, in order.
 use Rattle.std.proofs.Common.{◌≡◌, ℕ, zero, suc, ◌+◌, ◌-◌, ◌<◌, ◌≤◌, cond, eqb, ltb, List, [], ◌∷◌, map, length, get_or, Some, None, Option, sym, refl, ap, ◌∙◌, subst, ⊎_elim, arith}
 use mathlib.Core.Path.{subst⁻¹, fun_ext}
-use Rattle.std.proofs.lemmas.Bool.{cases_lt, cases_eq, lt_ltb, le_ltb, eq_eqb, ne_eqb}
+use Rattle.std.proofs.lemmas.Bool.{cases_lt, cases_eq, lt-ltb, le-ltb, eq-eqb, ne_eqb}
 use Rattle.std.proofs.lemmas.Bool.Decides.{nat_tests}
 use Rattle.words.specs.declared.version.Version.{Version}
 use Rattle.words.specs.Version.{first_version}
@@ -56,30 +56,30 @@ module _ (s : Store) (few : s.cells ≤ 1024) (roomy : s.cells ≤ s.used - 2) (
   next_at k l = ap (λ (r : Record). r.next) (records k l)
 
   free_led : (n a : ℕ) → a + n ≡ s.used → s.cells ≤ a → Linked L s.records (cond (ltb a s.used) (Some a) None) (upto n a)
-  free_led zero a e l = simp (le_ltb a s.used (omega arith))
+  free_led zero a e l = simp (le-ltb a s.used (omega arith))
   free_led (suc n) a e l =
-      let on = next_at a (omega arith) ∙ ap (λ b. cond b None (cond (ltb (a + 1) s.used) (Some (a + 1)) None)) (le_ltb a s.cells l) in
-      (ap (λ b. cond b (Some a) None) (lt_ltb a s.used (omega arith)), omega arith, subst⁻¹ (λ (z : Option ℕ). Linked L s.records z (upto n (a + 1))) on (free_led n (a + 1) (omega arith) (omega arith)))
+      let on = next_at a (omega arith) ∙ ap (λ b. cond b None (cond (ltb (a + 1) s.used) (Some (a + 1)) None)) (le-ltb a s.cells l) in
+      (ap (λ b. cond b (Some a) None) (lt-ltb a s.used (omega arith)), omega arith, subst⁻¹ (λ (z : Option ℕ). Linked L s.records z (upto n (a + 1))) on (free_led n (a + 1) (omega arith) (omega arith)))
 
   led : (q : ℕ) → Linked L s.records (link s q) (paths q)
   led q =
       ⊎_elim
       (λ (l : q < s.cells).
-      subst⁻¹ (λ (p : List ℕ). Linked L s.records (link s q) p) (ap (λ b. cond b (q ∷ []) (cond (eqb q s.cells) (upto (s.used - s.cells) s.cells) [])) (lt_ltb q s.cells l))
-      (ap (λ b. cond b (get_or s.heads q None) (cond (eqb q s.cells) s.free None)) (lt_ltb q s.cells l) ∙ heads q l, omega arith, next_at q (omega arith) ∙ ap (λ b. cond b None (cond (ltb (q + 1) s.used) (Some (q + 1)) None)) (lt_ltb q s.cells l)))
+      subst⁻¹ (λ (p : List ℕ). Linked L s.records (link s q) p) (ap (λ b. cond b (q ∷ []) (cond (eqb q s.cells) (upto (s.used - s.cells) s.cells) [])) (lt-ltb q s.cells l))
+      (ap (λ b. cond b (get_or s.heads q None) (cond (eqb q s.cells) s.free None)) (lt-ltb q s.cells l) ∙ heads q l, omega arith, next_at q (omega arith) ∙ ap (λ b. cond b None (cond (ltb (q + 1) s.used) (Some (q + 1)) None)) (lt-ltb q s.cells l)))
       (λ l. ⊎_elim
-      (λ (e : q ≡ s.cells). simp (le_ltb q s.cells l, eq_eqb q s.cells e) (subst⁻¹ (λ (z : Option ℕ). Linked L s.records z (upto (s.used - s.cells) s.cells)) free (free_led (s.used - s.cells) s.cells (omega arith) (omega arith))))
-      (λ ne. simp (le_ltb q s.cells l, ne_eqb q s.cells ne) refl)
+      (λ (e : q ≡ s.cells). simp (le-ltb q s.cells l, eq-eqb q s.cells e) (subst⁻¹ (λ (z : Option ℕ). Linked L s.records z (upto (s.used - s.cells) s.cells)) free (free_led (s.used - s.cells) s.cells (omega arith) (omega arith))))
+      (λ ne. simp (le-ltb q s.cells l, ne_eqb q s.cells ne) refl)
       (cases_eq q s.cells))
       (cases_lt q s.cells)
 
   last : paths s.cells ≡ upto (s.used - s.cells) s.cells
-  last = simp (le_ltb s.cells s.cells (omega arith), eq_eqb s.cells s.cells refl)
+  last = simp (le-ltb s.cells s.cells (omega arith), eq-eqb s.cells s.cells refl)
 
   -- a number counted along the paths: once for each cell's own record, and along the free ones
   summed : (f : List ℕ → ℕ) → sum (suc s.cells) (λ q. f (paths q)) ≡ f (upto (s.used - s.cells) s.cells) + sum s.cells (λ q. f (q ∷ []))
   summed f =
-      let own = sum_same s.cells (λ q. f (paths q)) (λ q. f (q ∷ [])) (λ q l. ap (λ b. f (cond b (q ∷ []) (cond (eqb q s.cells) (upto (s.used - s.cells) s.cells) []))) (lt_ltb q s.cells l)) in
+      let own = sum_same s.cells (λ q. f (paths q)) (λ q. f (q ∷ [])) (λ q l. ap (λ b. f (cond b (q ∷ []) (cond (eqb q s.cells) (upto (s.used - s.cells) s.cells) []))) (lt-ltb q s.cells l)) in
       omega (arith, own, ap f last)
 
   once : (j : ℕ) → sum (suc s.cells) (λ q. count j (paths q)) ≡ cond (ltb j s.used) 1 0
@@ -103,9 +103,9 @@ module _ (s : Store) (few : s.cells ≤ 1024) (roomy : s.cells ≤ s.used - 2) (
       fun_ext (λ c.
       ⊎_elim
       (λ (l : c < s.cells).
-      ap (λ b. cond b (along s.records (link s c)) []) (lt_ltb c s.cells l) ∙ ap (map (version_of s.records)) (ap (λ (F : ℕ → List ℕ). F c) done.paths ∙ ap (λ b. cond b (c ∷ []) (cond (eqb c s.cells) (upto (s.used - s.cells) s.cells) [])) (lt_ltb c s.cells l)) ∙ ap (λ (r : Record). r.version ∷ []) (records c (omega arith)) ∙ sym (ap (λ b. cond b (first_version ∷ []) []) (lt_ltb c s.cells l)))
+      ap (λ b. cond b (along s.records (link s c)) []) (lt-ltb c s.cells l) ∙ ap (map (version_of s.records)) (ap (λ (F : ℕ → List ℕ). F c) done.paths ∙ ap (λ b. cond b (c ∷ []) (cond (eqb c s.cells) (upto (s.used - s.cells) s.cells) [])) (lt-ltb c s.cells l)) ∙ ap (λ (r : Record). r.version ∷ []) (records c (omega arith)) ∙ sym (ap (λ b. cond b (first_version ∷ []) []) (lt-ltb c s.cells l)))
       (λ l.
-      ap (λ b. cond b (along s.records (link s c)) []) (le_ltb c s.cells l) ∙ sym (ap (λ b. cond b (first_version ∷ []) []) (le_ltb c s.cells l)))
+      ap (λ b. cond b (along s.records (link s c)) []) (le-ltb c s.cells l) ∙ sym (ap (λ b. cond b (first_version ∷ []) []) (le-ltb c s.cells l)))
       (cases_lt c s.cells))
 
   pub clear_kept : Kept s

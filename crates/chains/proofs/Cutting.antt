@@ -1,7 +1,7 @@
 -- Cutting a chain record by record: what has been passed is kept or given back, what is left is as
 -- it was.
 use Rattle.std.proofs.Common.{◌≡◌, ℕ, suc, ◌+◌, ◌<◌, ◌≤◌, true, false, leb, List, [], ◌∷◌, ◌++◌, map, length, get_or, drop, set, Some, None, Option, sym, refl, ap, ◌∙◌, subst, ap₂, arith}
-use Rattle.std.proofs.lemmas.List.{append_nil, append_assoc, map_append, length_append, length_map, length_set}
+use Rattle.std.proofs.lemmas.List.{append-nil, append_assoc, map-append, length-append, length-map, length-set}
 use Rattle.std.proofs.lemmas.Bool.Decides.{nat_tests}
 use Rattle.words.specs.declared.version.Version.{Version}
 use Rattle.tables.specs.Versions.{top, ordered, sinks, stays, kept as staying, cut_count}
@@ -44,7 +44,7 @@ cut_start s k c stamp in' =
       stay = ap (staying stamp) (own_list s c in');
       lists = sym (ap (put (list s) c) (sym (own_list s c in')) ∙ put_same (list s) c);
       counted = omega arith;
-      lost = omega (arith, ap length (own_list s c in'), length_map (path s.records (get_or s.heads c None)) (version_of s.records));
+      lost = omega (arith, ap length (own_list s c in'), length-map (path s.records (get_or s.heads c None)) (version_of s.records));
       unused = same_unused s;
     }
 
@@ -86,7 +86,7 @@ module _ (s₀ s : Store) (c stamp : ℕ) (in' : c < s.cells) (newer at : Option
   pub cut_stay : stays stamp v ≡ true → Cutting s₀ s c stamp (Some i) next gone
   cut_stay yes' =
       let front = now'.front ++ (i ∷ []) in
-      let regroup : (tail : List Version) → map (version_of rs) now'.front ++ (v ∷ tail) ≡ map (version_of rs) front ++ tail = λ tail. sym (ap (λ (l : List Version). l ++ tail) (map_append (version_of rs) now'.front (i ∷ [])) ∙ append_assoc (map (version_of rs) now'.front) (v ∷ []) tail) in
+      let regroup : (tail : List Version) → map (version_of rs) now'.front ++ (v ∷ tail) ≡ map (version_of rs) front ++ tail = λ tail. sym (ap (λ (l : List Version). l ++ tail) (map-append (version_of rs) now'.front (i ∷ [])) ∙ append_assoc (map (version_of rs) now'.front) (v ∷ []) tail) in
       let keeps : staying stamp (along rs at) ≡ v ∷ staying stamp (along rs next) = ap (staying stamp) along_opens ∙ simp yes' in
       record {
         front = front;
@@ -97,7 +97,7 @@ module _ (s₀ s : Store) (c stamp : ℕ) (in' : c < s.cells) (newer at : Option
         stay = now'.stay ∙ ap (λ (l : List Version). map (version_of rs) now'.front ++ l) keeps ∙ regroup (staying stamp (along rs next));
         lists = now'.lists ∙ ap (λ (l : List Version). put (list s₀) c (map (version_of rs) now'.front ++ l)) along_opens ∙ ap (put (list s₀) c) (regroup (along rs next));
         counted = now'.counted;
-        lost = omega (arith, now'.lost, ap length opens, length_append now'.front (i ∷ []));
+        lost = omega (arith, now'.lost, ap length opens, length-append now'.front (i ∷ []));
         unused = now'.unused;
       }
 
@@ -118,7 +118,7 @@ module _ (s₀ s : Store) (c stamp : ℕ) (in' : c < s.cells) (newer at : Option
   -- there is room to count one more free record
   pub count_room : s.count < s.used
   count_room =
-      omega (arith, sum_two (suc s.cells) (λ q. length (path_of s q)) c s.cells (omega arith) (omega arith) (λ z. omega arith), now'.kept.full, now'.kept.counted, ap length here, length_append now'.front (i ∷ path rs next))
+      omega (arith, sum_two (suc s.cells) (λ q. length (path_of s q)) c s.cells (omega arith) (omega arith) (λ z. omega arith), now'.kept.full, now'.kept.counted, ap length here, length-append now'.front (i ∷ path rs next))
 
   abbrev s' : Store
   s' = moved s c newer next i (record { version = v; next = s.free }) (Some i) (s.count + 1)
@@ -129,7 +129,7 @@ module _ (s₀ s : Store) (c stamp : ℕ) (in' : c < s.cells) (newer at : Option
   -- what is behind the record is on the same path afterwards
   after_led : (good rs' next ≡ true) × (path rs' next ≡ path rs next)
   after_led =
-      let long : length rs ≡ length rs' = sym (to_length newer next (set rs i (record { version = v; next = s.free })) ∙ length_set rs i _) in
+      let long : length rs ≡ length rs' = sym (to_length newer next (set rs i (record { version = v; next = s.free })) ∙ length-set rs i _) in
       let after = onward s now'.kept c in' now'.front i (path rs next) newer here now'.last tail in
       linked_ends (length rs') (length rs') rs' next (path rs next) (subst (λ (u : ℕ). Linked u rs' next (path rs next)) long after) (omega (arith, path_short rs next))
 
@@ -137,7 +137,7 @@ module _ (s₀ s : Store) (c stamp : ℕ) (in' : c < s.cells) (newer at : Option
   pub cut_give : stays stamp v ≡ false → Cutting s₀ s' c stamp newer next (gone + 1)
   cut_give no' =
       let k = now'.kept in
-      let sink = ordered_without top (map (version_of rs) now'.front) v (along rs next) (ap sinks (sym (ap (map (version_of rs)) here ∙ map_append (version_of rs) now'.front (i ∷ path rs next))) ∙ ap sinks (sym (along_own)) ∙ k.sinking c) in
+      let sink = ordered_without top (map (version_of rs) now'.front) v (along rs next) (ap sinks (sym (ap (map (version_of rs)) here ∙ map-append (version_of rs) now'.front (i ∷ path rs next))) ∙ ap sinks (sym (along_own)) ∙ k.sinking c) in
       let done = gives s k c in' now'.front i (path rs next) newer here now'.last tail sink in
       let ends = after_led in
       let seen = kept_versions s k c in' now'.front i (path rs next) newer here now'.last tail in
@@ -176,10 +176,10 @@ pub record CutDone (s s' : Store) (c stamp gone : ℕ) : Type 0 where
 pub cut_end : (s₀ s : Store) (c stamp : ℕ) (newer at : Option ℕ) (gone : ℕ) → Cutting s₀ s c stamp newer at gone → at ≡ None → CutDone s₀ s c stamp gone
 cut_end s₀ s c stamp newer at gone now' e =
     let none = at_none s.records at e in
-    let bare : staying stamp (list s₀ c) ≡ map (version_of s.records) now'.front = now'.stay ∙ ap (λ (q : List ℕ). map (version_of s.records) now'.front ++ staying stamp (map (version_of s.records) q)) none ∙ append_nil _ in
-    let left : list s ≡ put (list s₀) c (staying stamp (list s₀ c)) = now'.lists ∙ ap (put (list s₀) c) (ap (λ (q : List ℕ). map (version_of s.records) now'.front ++ map (version_of s.records) q) none ∙ append_nil _ ∙ sym bare) in
+    let bare : staying stamp (list s₀ c) ≡ map (version_of s.records) now'.front = now'.stay ∙ ap (λ (q : List ℕ). map (version_of s.records) now'.front ++ staying stamp (map (version_of s.records) q)) none ∙ append-nil _ in
+    let left : list s ≡ put (list s₀) c (staying stamp (list s₀ c)) = now'.lists ∙ ap (put (list s₀) c) (ap (λ (q : List ℕ). map (version_of s.records) now'.front ++ map (version_of s.records) q) none ∙ append-nil _ ∙ sym bare) in
     let lengths = cut_counts stamp (list s₀ c) in
-    let kept_length = ap length bare ∙ length_map now'.front (version_of s.records) in
+    let kept_length = ap length bare ∙ length-map now'.front (version_of s.records) in
     let count' : gone ≡ cut_count stamp (list s₀ c) = omega (arith, now'.lost, ap length none) in
     record {
       kept = now'.kept;

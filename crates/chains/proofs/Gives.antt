@@ -1,6 +1,6 @@
 -- A record taken out of a cell's chain, behind `newer`, and put in front of the free ones.
 use Rattle.std.proofs.Common.{◌≡◌, ℕ, ◌+◌, ◌<◌, ◌≤◌, true, List, ◌∷◌, ◌++◌, map, length, get_or, set, Some, None, Option, sym, refl, ap, ◌∙◌, subst, ap₂, arith}
-use Rattle.std.proofs.lemmas.List.{length_set, map_append}
+use Rattle.std.proofs.lemmas.List.{length-set, map-append}
 use Rattle.words.specs.declared.version.Version.{Version}
 use Rattle.tables.specs.Versions.{sinks}
 use Rattle.tables.specs.Table.{put}
@@ -82,7 +82,7 @@ module _ (s : Store) (kept : Kept s) (c : ℕ) (in' : c < s.cells) (p : List ℕ
 
   here : along rs' (link given c) ≡ map (version_of s.records) p ++ map (version_of s.records) q
   here =
-      ap (map (version_of rs')) (ap (λ (F : ℕ → List ℕ). F c) done.paths ∙ after_own s kept c in' p (j ∷ q) q newer split last j r (next_of s.records j) (Some j) (s.count + 1) fp) ∙ map_append (version_of rs') p q ∙
+      ap (map (version_of rs')) (ap (λ (F : ℕ → List ℕ). F c) done.paths ∙ after_own s kept c in' p (j ∷ q) q newer split last j r (next_of s.records j) (Some j) (s.count + 1) fp) ∙ map-append (version_of rs') p q ∙
       ap₂ (λ (x y : List Version). x ++ y) (same p j_split.0) (same q j_split.1)
 
   other : (a : ℕ) → a < s.cells → (a ≡ c → ⊥) → along rs' (link given a) ≡ along s.records (link s a)
@@ -110,7 +110,7 @@ module _ (s : Store) (kept : Kept s) (c : ℕ) (in' : c < s.cells) (p : List ℕ
           few = kept.few;
           roomy = kept.roomy;
           headed = omega (arith, kept.headed, heads_length newer c (next_of s.records j) s.heads);
-          lent = omega (arith, kept.lent, to_length newer (next_of s.records j) (set s.records j r), length_set s.records j r);
+          lent = omega (arith, kept.lent, to_length newer (next_of s.records j) (set s.records j r), length-set s.records j r);
         };
         lists = lists;
       }

@@ -1,7 +1,7 @@
 -- Inserting a version into a cell's chain is inserting it into the cell's list by its stamp.
 use Rattle.std.proofs.Common.{◌≡◌, ℕ, ◌+◌, ◌-◌, ◌<◌, ◌≤◌, true, false, eqb, ltb, List, [], ◌∷◌, ◌++◌, map, length, get_or, drop, set, Some, None, Option, sym, refl, ap, ◌∙◌, subst, arith}
-use Rattle.std.proofs.lemmas.List.{map_append, drop_set_lt}
-use Rattle.std.proofs.lemmas.Bool.{lt_ltb, eq_eqb, ne_eqb}
+use Rattle.std.proofs.lemmas.List.{map-append, drop-set-lt}
+use Rattle.std.proofs.lemmas.Bool.{lt-ltb, eq-eqb, ne_eqb}
 use Rattle.std.proofs.lemmas.Bool.Decides.{nat_tests}
 use Rattle.words.specs.Outcome.{accepted, refuse}
 use Rattle.words.specs.declared.refusal.Refusal.TheVariants.{NoPlace}
@@ -30,10 +30,10 @@ with_split v (u ∷ us) vs h l = grind (arith, nat_tests, with_split v us vs)
 
 -- the head of a cell is the first link of its chain, and its list is what stands along it
 pub own_head : (s : Store) (c : ℕ) → c < s.cells → link s c ≡ get_or s.heads c None
-own_head s c l = simp (lt_ltb c s.cells l)
+own_head s c l = simp (lt-ltb c s.cells l)
 
 pub own_list : (s : Store) (c : ℕ) → c < s.cells → list s c ≡ along s.records (get_or s.heads c None)
-own_list s c l = simp (lt_ltb c s.cells l)
+own_list s c l = simp (lt-ltb c s.cells l)
 
 pub own_good : (s : Store) → Kept s → (c : ℕ) → c < s.cells → good s.records (get_or s.heads c None) ≡ true
 own_good s k c l = subst (λ (z : Option ℕ). good s.records z ≡ true) (own_head s c l) (k.ends c)
@@ -43,7 +43,7 @@ pub none_free : (s : Store) → Kept s → s.free ≡ None → s.count ≡ 0
 none_free s k e = k.counted ∙ ap length (at_none s.records (link s s.cells) (free_path s ∙ e))
 
 pub no_place : (s : Store) → Kept s → (c stamp : ℕ) → holds stamp (list s c) ≡ false → s.free ≡ None → refuse NoPlace ≡ insert_in (list s c) s.count stamp
-no_place s k c stamp new e = rw (new, eq_eqb s.count 0 (none_free s k e))
+no_place s k c stamp new e = rw (new, eq-eqb s.count 0 (none_free s k e))
 
 pub same_unused : (s : Store) → Unused s s
 same_unused s = record { cells = refl; used = refl; heads = refl; records = refl }
@@ -53,12 +53,12 @@ pub moved_unused : (s : Store) (c : ℕ) (newer to : Option ℕ) (x : ℕ) (r : 
 moved_unused s c newer to x r fl n in' inside led = record { cells = refl; used = refl; heads = heads newer; records = records newer led }
   where
     heads : (z : Option ℕ) → drop s.cells (heads_to z c to s.heads) ≡ drop s.cells s.heads
-    heads None = drop_set_lt s.cells s.heads c to in'
+    heads None = drop-set-lt s.cells s.heads c to in'
     heads (Some k) = refl
 
     records : (z : Option ℕ) → ((k : ℕ) → z ≡ Some k → k < s.used) → drop s.used (records_to z to (set s.records x r)) ≡ drop s.used s.records
-    records None l = drop_set_lt s.used s.records x r inside
-    records (Some k) l = drop_set_lt s.used (set s.records x r) k _ (l k refl) ∙ drop_set_lt s.used s.records x r inside
+    records None l = drop-set-lt s.used s.records x r inside
+    records (Some k) l = drop-set-lt s.used (set s.records x r) k _ (l k refl) ∙ drop-set-lt s.used s.records x r inside
 
 -- the first free record is counted, and is one of those used
 module _ (s : Store) (kept : Kept s) (f : ℕ) (free : s.free ≡ Some f) where
@@ -90,7 +90,7 @@ module _ (s : Store) (kept : Kept s) (c : ℕ) (in' : c < s.cells) (stamp value 
 
   -- the list in two parts, and the new version between them
   parts : list s c ≡ map (version_of s.records) place.front ++ along s.records older
-  parts = own_list s c in' ∙ ap (map (version_of s.records)) place.split ∙ map_append (version_of s.records) place.front (path s.records older)
+  parts = own_list s c in' ∙ ap (map (version_of s.records)) place.split ∙ map-append (version_of s.records) place.front (path s.records older)
 
   between : with_version v (list s c) ≡ map (version_of s.records) place.front ++ (v ∷ along s.records older)
   between = ap (with_version v) parts ∙ with_split v (map (version_of s.records) place.front) (along s.records older) place.high place.rest

@@ -1,8 +1,8 @@
 -- One record rewritten and one chain led elsewhere: what becomes of all the paths. Inserting a
 -- record and freeing one are both such a move.
 use Rattle.std.proofs.Common.{◌≡◌, ℕ, suc, ◌+◌, ◌<◌, ◌≤◌, eqb, ltb, List, [], ◌∷◌, ◌++◌, map, length, get_or, set, Some, None, Option, sym, refl, ap, ◌∙◌, subst, ⊎_elim, arith}
-use Rattle.std.proofs.lemmas.List.{length_set, get_or_set_same, get_or_set_other, length_append}
-use Rattle.std.proofs.lemmas.Bool.{cases_lt, cases_eq, lt_ltb, le_ltb, eq_eqb, ne_eqb}
+use Rattle.std.proofs.lemmas.List.{length-set, get_or-set_same, get_or-set_other, length-append}
+use Rattle.std.proofs.lemmas.Bool.{cases_lt, cases_eq, lt-ltb, le-ltb, eq-eqb, ne_eqb}
 use Rattle.std.proofs.lemmas.Bool.Decides.{nat_tests}
 use Rattle.tables.specs.Table.{put}
 use Rattle.tables.proofs.Lengths.{put_here, put_other}
@@ -26,16 +26,16 @@ to_versions (Some k) to rs p in' = versions_kept rs k (record { version = versio
 
 pub to_length : (newer to : Option ℕ) (rs : List Record) → length (records_to newer to rs) ≡ length rs
 to_length None to rs = refl
-to_length (Some k) to rs = length_set rs k _
+to_length (Some k) to rs = length-set rs k _
 
 pub heads_length : (newer : Option ℕ) (c : ℕ) (to : Option ℕ) (hs : List (Option ℕ)) → length (heads_to newer c to hs) ≡ length hs
-heads_length None c to hs = length_set hs c to
+heads_length None c to hs = length-set hs c to
 heads_length (Some k) c to hs = refl
 
 -- the chain itself, from its head on
 to_front : (u : ℕ) (newer to : Option ℕ) (rs : List Record) (hs : List (Option ℕ)) (c : ℕ) (m : Option ℕ) (p : List ℕ) → c < length hs → newer ≡ last_of None p → ((k : ℕ) → newer ≡ Some k → (k < length rs) × (count k p ≡ 1)) → Led u rs (get_or hs c None) p m → Led u (records_to newer to rs) (get_or (heads_to newer c to hs) c None) p to
 to_front u newer to rs hs c m [] in' last once h =
-    subst (λ (z : Option ℕ). get_or (heads_to z c to hs) c None ≡ to) (sym last) (get_or_set_same hs c to None in')
+    subst (λ (z : Option ℕ). get_or (heads_to z c to hs) c None ≡ to) (sym last) (get_or-set_same hs c to None in')
 to_front u None to rs hs c m (j ∷ p) in' last once h = absurd (none_last j p last)
   where
     none_last : (j : ℕ) (p : List ℕ) → None ≡ last_of (Some j) p → ⊥
@@ -64,7 +64,7 @@ module _ (s : Store) (kept : Kept s) (c : ℕ) (in' : c < s.cells) (p q q' : Lis
   newer_within k e = omega (arith, within s kept c k (omega arith) (newer_in k e), kept.lent)
 
   newer_inside : (k : ℕ) → newer ≡ Some k → k < length (set s.records x r)
-  newer_inside k e = omega (arith, newer_within k e, length_set s.records x r)
+  newer_inside k e = omega (arith, newer_within k e, length-set s.records x r)
 
   -- newer stands neither behind itself nor among the free records
   pub newer_tail : (k : ℕ) → newer ≡ Some k → count k q ≡ 0
@@ -83,11 +83,11 @@ module _ (s : Store) (kept : Kept s) (c : ℕ) (in' : c < s.cells) (p q q' : Lis
 
   -- x itself, where it is not newer
   pub rewritten : x < length s.records → count x p ≡ 0 → get_or rs' x blank ≡ r
-  rewritten inside off = at newer (λ k e z. omega (arith, newer_once k e, ap (λ (i : ℕ). count i p) z)) ∙ get_or_set_same s.records x r blank inside
+  rewritten inside off = at newer (λ k e z. omega (arith, newer_once k e, ap (λ (i : ℕ). count i p) z)) ∙ get_or-set_same s.records x r blank inside
     where
       at : (z : Option ℕ) → ((k : ℕ) → z ≡ Some k → x ≡ k → ⊥) → get_or (records_to z to (set s.records x r)) x blank ≡ get_or (set s.records x r) x blank
       at None ne = refl
-      at (Some k) ne = get_or_set_other (set s.records x r) k x _ blank (ne k refl)
+      at (Some k) ne = get_or-set_other (set s.records x r) k x _ blank (ne k refl)
 
   abbrev s' : Store
   s' = moved s c newer to x r fl n
@@ -100,14 +100,14 @@ module _ (s : Store) (kept : Kept s) (c : ℕ) (in' : c < s.cells) (p q q' : Lis
   other_link a ne nf = go newer
     where
       go : (z : Option ℕ) → link (moved s c z to x r fl n) a ≡ link s a
-      go None = simp (ne_eqb a s.cells nf, get_or_set_other s.heads c a to None ne)
+      go None = simp (ne_eqb a s.cells nf, get_or-set_other s.heads c a to None ne)
       go (Some k) = simp (ne_eqb a s.cells nf)
 
   own_link : link s' c ≡ get_or (heads_to newer c to s.heads) c None
-  own_link = simp (lt_ltb c s.cells in')
+  own_link = simp (lt-ltb c s.cells in')
 
   free_link : link s' s.cells ≡ fl
-  free_link = simp (le_ltb s.cells s.cells (omega arith), eq_eqb s.cells s.cells refl)
+  free_link = simp (le-ltb s.cells s.cells (omega arith), eq-eqb s.cells s.cells refl)
 
   pub after_free : after s.cells ≡ fp
   after_free = put_here (put (path_of s) c (p ++ q')) s.cells fp
@@ -138,7 +138,7 @@ module _ (s : Store) (kept : Kept s) (c : ℕ) (in' : c < s.cells) (p q q' : Lis
     -- the front of the chain itself now comes to the link `to`
     front_led : Led (length s.records) rs' (link s' c) p to
     front_led =
-        let here : Linked (length s.records) s.records (get_or s.heads c None) (p ++ q) = subst (λ (z : List ℕ). Linked (length s.records) s.records (get_or s.heads c None) z) split (subst (λ (l : Option ℕ). Linked (length s.records) s.records l (path_of s c)) (simp (lt_ltb c s.cells in')) (follows s kept c)) in
+        let here : Linked (length s.records) s.records (get_or s.heads c None) (p ++ q) = subst (λ (z : List ℕ). Linked (length s.records) s.records (get_or s.heads c None) z) split (subst (λ (l : Option ℕ). Linked (length s.records) s.records l (path_of s c)) (simp (lt-ltb c s.cells in')) (follows s kept c)) in
         let front = led_frame (length s.records) s.records x r (get_or s.heads c None) m p off (led_front (length s.records) s.records (get_or s.heads c None) m p q here old) in
         subst (λ (l : Option ℕ). Led (length s.records) rs' l p to) (sym own_link)
         (to_front (length s.records) newer to (set s.records x r) s.heads c m p (omega (arith, kept.headed)) last (λ k e. (newer_inside k e, newer_once k e)) front)
@@ -166,8 +166,8 @@ module _ (s : Store) (kept : Kept s) (c : ℕ) (in' : c < s.cells) (p q q' : Lis
 
       pub moves : Pathed s' after
       moves =
-          let same : length s.records ≡ length rs' = sym (to_length newer to (set s.records x r) ∙ length_set s.records x r) in
+          let same : length s.records ≡ length rs' = sym (to_length newer to (set s.records x r) ∙ length-set s.records x r) in
           pathed s' after (omega (arith, kept.lent))
           (λ a. subst (λ (u : ℕ). Linked u rs' (link s' a) (after a)) same (led_after a))
           (λ j. balanced (count j) (omega (arith, ap (count j) split, count_append j p q, count_append j p q', once j)) ∙ kept.tallied j)
-          (balanced length (omega (arith, ap length split, length_append p q, length_append p q', all)) ∙ kept.full)
+          (balanced length (omega (arith, ap length split, length-append p q, length-append p q', all)) ∙ kept.full)

@@ -1,7 +1,7 @@
 -- Paths along links: a path is what the links say, and what a write to one record makes of it.
 use Rattle.std.proofs.Common.{◌≡◌, ℕ, zero, suc, ◌<◌, ◌≤◌, true, false, ltb, List, [], ◌∷◌, ◌++◌, map, length, get_or, set, Some, None, Option, sym, refl, ap, ◌∙◌, subst, ap₂, ⊎_elim, arith}
-use Rattle.std.proofs.lemmas.List.{get_or_set_same, get_or_set_other}
-use Rattle.std.proofs.lemmas.Bool.{and_parts, and_from, ltb_true, lt_ltb, cases_eq, false≢true}
+use Rattle.std.proofs.lemmas.List.{get_or-set_same, get_or-set_other}
+use Rattle.std.proofs.lemmas.Bool.{and_parts, and_from, ltb-true, lt-ltb, cases_eq, false≢true}
 use Rattle.std.proofs.lemmas.Bool.Decides.{nat_tests}
 use Rattle.words.specs.declared.version.Version.{Version}
 use Rattle.chains.specs.declared.record.Record.{Record}
@@ -23,7 +23,7 @@ linked u zero rs (Some i) h = absurd (false≢true h)
 linked u (suc n) rs None h = refl
 linked u (suc n) rs (Some i) h =
     let parts = and_parts (ltb i u) (ended u n rs (next_of rs i)) h in
-    (refl, ltb_true i u parts.0, linked u n rs (next_of rs i) parts.1)
+    (refl, ltb-true i u parts.0, linked u n rs (next_of rs i) parts.1)
 
 pub linked_ends : (u n : ℕ) (rs : List Record) (l : Option ℕ) (p : List ℕ) → Linked u rs l p → length p ≤ n → (ended u n rs l ≡ true) × (chain n rs l ≡ p)
 linked_ends u n rs l [] h le = subst (λ (z : Option ℕ). (ended u n rs z ≡ true) × (chain n rs z ≡ [])) (sym h) (none n)
@@ -35,7 +35,7 @@ linked_ends u zero rs l (j ∷ p) h le = absurd (omega arith)
 linked_ends u (suc n) rs l (j ∷ p) h le =
     let rest = linked_ends u n rs (next_of rs j) p h.2 (omega arith) in
     subst (λ (z : Option ℕ). (ended u (suc n) rs z ≡ true) × (chain (suc n) rs z ≡ j ∷ p)) (sym h.0)
-    (and_from _ _ (lt_ltb j u h.1) rest.0, ap (λ q. j ∷ q) rest.1)
+    (and_from _ _ (lt-ltb j u h.1) rest.0, ap (λ q. j ∷ q) rest.1)
 
 chain_short : (n : ℕ) (rs : List Record) (l : Option ℕ) → length (chain n rs l) ≤ n
 chain_short zero rs l = omega arith
@@ -58,7 +58,7 @@ stepped rs i h = go (length rs) refl
         let parts = and_parts (ltb i (length rs)) (ended (length rs) n rs (next_of rs i)) g in
         let rest = linked_ends (length rs) (length rs) rs (next_of rs i) (chain n rs (next_of rs i)) (linked (length rs) n rs (next_of rs i) parts.1) (omega (arith, chain_short n rs (next_of rs i))) in
         record {
-          within = ltb_true i (length rs) parts.0;
+          within = ltb-true i (length rs) parts.0;
           opens = ap (λ (m : ℕ). chain m rs (Some i)) e ∙ ap (λ q. i ∷ q) (sym rest.1);
           onward = rest.0;
         }
@@ -84,14 +84,14 @@ led_frame u rs k r l m [] out h = h
 led_frame u rs k r l m (j ∷ p) out h =
     let ne : j ≡ k → ⊥ = grind (arith, nat_tests) in
     let rest : count k p ≡ 0 = omega arith in
-    (h.0, h.1, subst (λ (z : Option ℕ). Led u (set rs k r) z p m) (sym (ap (λ (x : Record). x.next) (get_or_set_other rs k j r blank ne))) (led_frame u rs k r (next_of rs j) m p rest h.2))
+    (h.0, h.1, subst (λ (z : Option ℕ). Led u (set rs k r) z p m) (sym (ap (λ (x : Record). x.next) (get_or-set_other rs k j r blank ne))) (led_frame u rs k r (next_of rs j) m p rest h.2))
 
 pub versions_frame : (rs : List Record) (k : ℕ) (r : Record) (p : List ℕ) → count k p ≡ 0 → map (version_of (set rs k r)) p ≡ map (version_of rs) p
 versions_frame rs k r [] out = refl
 versions_frame rs k r (j ∷ p) out =
     let ne : j ≡ k → ⊥ = grind (arith, nat_tests) in
     let rest : count k p ≡ 0 = omega arith in
-    ap₂ (λ (v : Version) (vs : List Version). v ∷ vs) (ap (λ (x : Record). x.version) (get_or_set_other rs k j r blank ne)) (versions_frame rs k r p rest)
+    ap₂ (λ (v : Version) (vs : List Version). v ∷ vs) (ap (λ (x : Record). x.version) (get_or-set_other rs k j r blank ne)) (versions_frame rs k r p rest)
 
 -- a write that keeps the version of a record
 pub versions_kept : (rs : List Record) (k : ℕ) (r : Record) (p : List ℕ) → k < length rs → r.version ≡ version_of rs k → map (version_of (set rs k r)) p ≡ map (version_of rs) p
@@ -99,8 +99,8 @@ versions_kept rs k r [] in' e = refl
 versions_kept rs k r (j ∷ p) in' e =
     ap₂ (λ (v : Version) (vs : List Version). v ∷ vs)
     (⊎_elim
-    (λ (z : j ≡ k). subst (λ (i : ℕ). version_of (set rs k r) i ≡ version_of rs i) (sym z) (ap (λ (x : Record). x.version) (get_or_set_same rs k r blank in') ∙ e))
-    (λ ne. ap (λ (x : Record). x.version) (get_or_set_other rs k j r blank ne))
+    (λ (z : j ≡ k). subst (λ (i : ℕ). version_of (set rs k r) i ≡ version_of rs i) (sym z) (ap (λ (x : Record). x.version) (get_or-set_same rs k r blank in') ∙ e))
+    (λ ne. ap (λ (x : Record). x.version) (get_or-set_other rs k j r blank ne))
     (cases_eq j k))
     (versions_kept rs k r p in' e)
 
@@ -108,9 +108,9 @@ versions_kept rs k r (j ∷ p) in' e =
 pub relinked : (u : ℕ) (rs : List Record) (l m : Option ℕ) (j : ℕ) (p : List ℕ) (k : ℕ) (r : Record) → last_of (Some j) p ≡ Some k → k < length rs → count k (j ∷ p) ≡ 1 → Led u rs l (j ∷ p) m → Led u (set rs k r) l (j ∷ p) r.next
 relinked u rs l m j [] k r last in' once h =
     let e : j ≡ k = cc in
-    (h.0, h.1, ap (next_of (set rs k r)) e ∙ ap (λ (x : Record). x.next) (get_or_set_same rs k r blank in'))
+    (h.0, h.1, ap (next_of (set rs k r)) e ∙ ap (λ (x : Record). x.next) (get_or-set_same rs k r blank in'))
 relinked u rs l m j (i ∷ p) k r last in' once h =
     let has = last_counted i p k last in
     let ne : j ≡ k → ⊥ = grind (arith, nat_tests) in
     let rest : count k (i ∷ p) ≡ 1 = grind (arith, nat_tests) in
-    (h.0, h.1, subst (λ (z : Option ℕ). Led u (set rs k r) z (i ∷ p) r.next) (sym (ap (λ (x : Record). x.next) (get_or_set_other rs k j r blank ne))) (relinked u rs (next_of rs j) m i p k r last in' rest h.2))
+    (h.0, h.1, subst (λ (z : Option ℕ). Led u (set rs k r) z (i ∷ p) r.next) (sym (ap (λ (x : Record). x.next) (get_or-set_other rs k j r blank ne))) (relinked u rs (next_of rs j) m i p k r last in' rest h.2))

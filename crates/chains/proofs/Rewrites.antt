@@ -1,6 +1,6 @@
 -- The version of one record rewritten, its link kept: raise and mark.
 use Rattle.std.proofs.Common.{◌≡◌, ℕ, ◌<◌, ◌≤◌, true, List, [], ◌∷◌, ◌++◌, map, length, get_or, set, Option, sym, refl, ap, ◌∙◌, subst, ap₂, ⊎_elim, arith}
-use Rattle.std.proofs.lemmas.List.{length_set, get_or_set_same, get_or_set_other, map_append}
+use Rattle.std.proofs.lemmas.List.{length-set, get_or-set_same, get_or-set_other, map-append}
 use Rattle.std.proofs.lemmas.Bool.{cases_eq}
 use Rattle.words.specs.declared.version.Version.{Version}
 use Rattle.tables.specs.Versions.{sinks}
@@ -17,7 +17,7 @@ use Rattle.chains.proofs.Changes.{Changed, still_sinking, lists_by}
 led_same : (u : ℕ) (rs : List Record) (k : ℕ) (r : Record) (l m : Option ℕ) (p : List ℕ) → k < length rs → r.next ≡ next_of rs k → Led u rs l p m → Led u (set rs k r) l p m
 led_same u rs k r l m [] in' e h = h
 led_same u rs k r l m (j ∷ p) in' e h =
-    let same : next_of (set rs k r) j ≡ next_of rs j = ⊎_elim (λ (z : j ≡ k). subst (λ (i : ℕ). next_of (set rs k r) i ≡ next_of rs i) (sym z) (ap (λ (x : Record). x.next) (get_or_set_same rs k r blank in') ∙ e)) (λ ne. ap (λ (x : Record). x.next) (get_or_set_other rs k j r blank ne)) (cases_eq j k) in
+    let same : next_of (set rs k r) j ≡ next_of rs j = ⊎_elim (λ (z : j ≡ k). subst (λ (i : ℕ). next_of (set rs k r) i ≡ next_of rs i) (sym z) (ap (λ (x : Record). x.next) (get_or-set_same rs k r blank in') ∙ e)) (λ ne. ap (λ (x : Record). x.next) (get_or-set_other rs k j r blank ne)) (cases_eq j k) in
     (h.0, h.1, subst (λ (z : Option ℕ). Led u (set rs k r) z p m) (sym same) (led_same u rs k r (next_of rs j) m p in' e h.2))
 
 module _ (s : Store) (kept : Kept s) (c : ℕ) (in' : c < s.cells) (p : List ℕ) (i : ℕ) (q : List ℕ) (split : path_of s c ≡ p ++ (i ∷ q)) (v : Version) where
@@ -40,15 +40,15 @@ module _ (s : Store) (kept : Kept s) (c : ℕ) (in' : c < s.cells) (p : List ℕ
 
   done : Pathed (rewrite s i v) (path_of s)
   done =
-      let long = length_set s.records i r in
+      let long = length-set s.records i r in
       pathed (rewrite s i v) (path_of s) (omega (arith, kept.lent))
       (λ a. subst (λ (u : ℕ). Linked u (set s.records i r) (link s a) (path_of s a)) (sym long) (led_same (length s.records) s.records i r (link s a) _ (path_of s a) inside refl (follows s kept a)))
       kept.tallied kept.full
 
   here : along (set s.records i r) (link s c) ≡ map (version_of s.records) p ++ (v ∷ map (version_of s.records) q)
   here =
-      ap (map (version_of (set s.records i r))) (ap (λ (F : ℕ → List ℕ). F c) done.paths ∙ split) ∙ map_append (version_of (set s.records i r)) p (i ∷ q) ∙
-      ap₂ (λ (x y : List Version). x ++ y) (versions_frame s.records i r p i_split.0) (ap₂ (λ (x : Version) (y : List Version). x ∷ y) (ap (λ (z : Record). z.version) (get_or_set_same s.records i r blank inside)) (versions_frame s.records i r q i_split.1))
+      ap (map (version_of (set s.records i r))) (ap (λ (F : ℕ → List ℕ). F c) done.paths ∙ split) ∙ map-append (version_of (set s.records i r)) p (i ∷ q) ∙
+      ap₂ (λ (x y : List Version). x ++ y) (versions_frame s.records i r p i_split.0) (ap₂ (λ (x : Version) (y : List Version). x ∷ y) (ap (λ (z : Record). z.version) (get_or-set_same s.records i r blank inside)) (versions_frame s.records i r q i_split.1))
 
   other : (a : ℕ) → a < s.cells → (a ≡ c → ⊥) → along (set s.records i r) (link s a) ≡ along s.records (link s a)
   other a l ne =
@@ -68,7 +68,7 @@ module _ (s : Store) (kept : Kept s) (c : ℕ) (in' : c < s.cells) (p : List ℕ
           few = kept.few;
           roomy = kept.roomy;
           headed = kept.headed;
-          lent = omega (arith, kept.lent, length_set s.records i r);
+          lent = omega (arith, kept.lent, length-set s.records i r);
         };
         lists = lists;
       }

@@ -1,7 +1,7 @@
 -- The first free record, written and put into a cell's chain behind `newer`.
 use Rattle.std.proofs.Common.{◌≡◌, ℕ, ◌+◌, ◌-◌, ◌<◌, ◌≤◌, true, List, ◌∷◌, ◌++◌, map, length, get_or, set, Some, None, Option, sym, refl, ap, ◌∙◌, subst, ap₂, arith}
-use Rattle.std.proofs.lemmas.List.{length_set, map_append}
-use Rattle.std.proofs.lemmas.Bool.{le_ltb, eq_eqb}
+use Rattle.std.proofs.lemmas.List.{length-set, map-append}
+use Rattle.std.proofs.lemmas.Bool.{le-ltb, eq-eqb}
 use Rattle.words.specs.declared.version.Version.{Version}
 use Rattle.tables.specs.Versions.{sinks}
 use Rattle.tables.specs.Table.{put}
@@ -17,7 +17,7 @@ use Rattle.chains.proofs.Changes.{Changed, still_sinking, lists_by}
 
 -- the free records are the last chain
 pub free_path : (s : Store) → link s s.cells ≡ s.free
-free_path s = simp (le_ltb s.cells s.cells (omega arith), eq_eqb s.cells s.cells refl)
+free_path s = simp (le-ltb s.cells s.cells (omega arith), eq-eqb s.cells s.cells refl)
 
 module _ (s : Store) (kept : Kept s) (c : ℕ) (in' : c < s.cells) (p q : List ℕ) (newer : Option ℕ) (split : path_of s c ≡ p ++ q) (last : newer ≡ last_of None p) (m : Option ℕ) (old : Linked (length s.records) s.records m q) (f : ℕ) (free : s.free ≡ Some f) (v : Version) where
   abbrev taken : Store
@@ -90,7 +90,7 @@ module _ (s : Store) (kept : Kept s) (c : ℕ) (in' : c < s.cells) (p q : List �
 
   here : along rs' (link taken c) ≡ map (version_of s.records) p ++ (v ∷ map (version_of s.records) q)
   here =
-      ap (map (version_of rs')) (ap (λ (F : ℕ → List ℕ). F c) done.paths ∙ after_own s kept c in' p q (f ∷ q) newer split last f r (Some f) (next_of s.records f) (s.count - 1) fp) ∙ map_append (version_of rs') p (f ∷ q) ∙
+      ap (map (version_of rs')) (ap (λ (F : ℕ → List ℕ). F c) done.paths ∙ after_own s kept c in' p q (f ∷ q) newer split last f r (Some f) (next_of s.records f) (s.count - 1) fp) ∙ map-append (version_of rs') p (f ∷ q) ∙
       ap₂ (λ (x y : List Version). x ++ y) (same p f_split.0) (ap₂ (λ (x : Version) (y : List Version). x ∷ y) (ap (λ (z : Record). z.version) written) (same q f_split.1))
 
   other : (a : ℕ) → a < s.cells → (a ≡ c → ⊥) → along rs' (link taken a) ≡ along s.records (link s a)
@@ -118,7 +118,7 @@ module _ (s : Store) (kept : Kept s) (c : ℕ) (in' : c < s.cells) (p q : List �
           few = kept.few;
           roomy = kept.roomy;
           headed = omega (arith, kept.headed, heads_length newer c (Some f) s.heads);
-          lent = omega (arith, kept.lent, to_length newer (Some f) (set s.records f r), length_set s.records f r);
+          lent = omega (arith, kept.lent, to_length newer (Some f) (set s.records f r), length-set s.records f r);
         };
         lists = lists;
       }

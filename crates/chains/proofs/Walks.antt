@@ -1,6 +1,6 @@
 -- The walks along a chain, step by step.
 use Rattle.std.proofs.Common.{◌≡◌, ℕ, zero, suc, ◌+◌, ◌-◌, ◌<◌, ◌≤◌, true, false, List, [], ◌∷◌, ◌++◌, map, length, Some, None, Option, sym, refl, ap, ◌∙◌, subst, arith}
-use Rattle.std.proofs.lemmas.List.{append_nil, append_assoc, map_append}
+use Rattle.std.proofs.lemmas.List.{append-nil, append_assoc, map-append}
 use Rattle.std.proofs.lemmas.Bool.Decides.{nat_tests}
 use Rattle.words.specs.Outcome.{accepted, refuse}
 use Rattle.words.specs.declared.refusal.Refusal.TheVariants.{NoVersion}
@@ -63,7 +63,7 @@ module _ (rs : List Record) (first l : Option ℕ) (p : List ℕ) (i : ℕ) (goo
   longer = split ∙ ap (λ (q : List ℕ). p ++ q) (opened rs l i good' at) ∙ sym (append_assoc p (i ∷ []) (path rs (next_of rs i)))
 
   front_more : map (version_of rs) (p ++ (i ∷ [])) ≡ map (version_of rs) p ++ (version_of rs i ∷ [])
-  front_more = map_append (version_of rs) p (i ∷ [])
+  front_more = map-append (version_of rs) p (i ∷ [])
 
   pub find_on : (s : ℕ) → holds s (map (version_of rs) p) ≡ false → ((version_of rs i).write ≡ s → ⊥) → holds s (map (version_of rs) (p ++ (i ∷ []))) ≡ false
   find_on s none ne = ap (holds s) front_more ∙ holds_append s (map (version_of rs) p) (version_of rs i ∷ []) ∙ grind (arith, nat_tests)
@@ -85,8 +85,8 @@ module _ (rs : List Record) (first l : Option ℕ) (p : List ℕ) (i : ℕ) (goo
 -- what is found is held
 pub found_holds : (rs : List Record) (first : Option ℕ) (s i : ℕ) → Found rs first s i → holds s (along rs first) ≡ true
 found_holds rs first s i f =
-    ap (λ (q : List ℕ). holds s (map (version_of rs) q)) f.split ∙ ap (holds s) (map_append (version_of rs) f.front (i ∷ f.back)) ∙ holds_append s (map (version_of rs) f.front) (version_of rs i ∷ map (version_of rs) f.back) ∙ grind (arith, nat_tests, f.here, f.before)
+    ap (λ (q : List ℕ). holds s (map (version_of rs) q)) f.split ∙ ap (holds s) (map-append (version_of rs) f.front (i ∷ f.back)) ∙ holds_append s (map (version_of rs) f.front) (version_of rs i ∷ map (version_of rs) f.back) ∙ grind (arith, nat_tests, f.here, f.before)
 
 -- at the end of a chain
 pub all_front : (rs : List Record) (first l : Option ℕ) (p : List ℕ) → path rs first ≡ p ++ path rs l → l ≡ None → path rs first ≡ p
-all_front rs first l p split e = split ∙ ap (λ (q : List ℕ). p ++ q) (at_none rs l e) ∙ append_nil p
+all_front rs first l p split e = split ∙ ap (λ (q : List ℕ). p ++ q) (at_none rs l e) ∙ append-nil p

@@ -1,5 +1,5 @@
 -- A map that was just made is good beside the empty history.
-use Rattle.std.proofs.Common.{◌≡◌, ℕ, ◌<◌, Bool, true, false, cond, ltb, [], ◌∷◌, Some, None, refl, ap, inl, arith, ltb_true}
+use Rattle.std.proofs.Common.{◌≡◌, ℕ, ◌<◌, Bool, true, false, cond, ltb, [], ◌∷◌, Some, None, refl, ap, inl, arith, ltb-true}
 use Rattle.std.proofs.lemmas.Bool.Decides.{nat_tests}
 use Rattle.words.specs.Version.{first_version}
 use Rattle.words.specs.declared.version.Version.{Version}
@@ -18,7 +18,7 @@ only_first : (cells c t : ℕ) (x : Version) → under t (cleared cells c) ≡ S
 only_first cells c t x e = by (ltb c cells) refl e
   where
     by : (b : Bool) → ltb c cells ≡ b → under t (cond b (first_version ∷ []) []) ≡ Some x → (c < cells) × (t ≡ 0) × (x ≡ first_version)
-    by true b e = (ltb_true c cells b, (grind (arith, nat_tests)), some_same x first_version (grind (arith, nat_tests)))
+    by true b e = (ltb-true c cells b, (grind (arith, nat_tests)), some_same x first_version (grind (arith, nat_tests)))
     by false b e = absurd (grind arith)
 
 module _ (workers cells : ℕ) where

@@ -1,5 +1,5 @@
 -- What the searches of the map's rules find in a good model.
-use Rattle.std.proofs.Common.{◌≡◌, ℕ, ◌<◌, ◌≤◌, Bool, true, false, cond, ltb, ◌⊎◌, List, Some, sym, refl, ap, ◌∙◌, subst, inl, inr, ⊎_elim, arith, ltb_false, ltb_true}
+use Rattle.std.proofs.Common.{◌≡◌, ℕ, ◌<◌, ◌≤◌, Bool, true, false, cond, ltb, ◌⊎◌, List, Some, sym, refl, ap, ◌∙◌, subst, inl, inr, ⊎_elim, arith, ltb-false, ltb-true}
 use Rattle.words.specs.Outcome.{Outcome, accepted, refused, refuse}
 use Rattle.words.specs.declared.refusal.Refusal.TheVariants.{NoCell}
 use Rattle.words.specs.declared.status.Status.TheVariants.{Aborted}
@@ -37,7 +37,7 @@ module _ (m : Model) (h : History) (good : Good m h) where
   accepted_found found free c v e = by (ltb c m.cells) refl (sym (searched found free c) ∙ e)
     where
       by : (b : Bool) → ltb c m.cells ≡ b → cond b (found (m.lists c)) (refuse NoCell) ≡ accepted v → (c < m.cells) × (found (m.lists c) ≡ accepted v)
-      by true b q = (ltb_true c m.cells b, q)
+      by true b q = (ltb-true c m.cells b, q)
       by false b q = absurd (let z : ◌≡◌ {A = ℕ} 0 1 = cc in omega arith)
 
   pub visible_found : (f : ℕ) (free : ℕ → ℕ) (c : ℕ) (v : Version) → search (visible f) (table_of free m) c ≡ accepted v → (c < m.cells) × Finds (λ g. g ≡ Aborted) f (λ u. under u (m.lists c)) v
@@ -55,8 +55,8 @@ module _ (m : Model) (h : History) (good : Good m h) where
   refused_found found free c n d e = by (ltb c m.cells) refl (sym (searched found free c) ∙ e)
     where
       by : (b : Bool) → ltb c m.cells ≡ b → cond b (found (m.lists c)) (refuse NoCell) ≡ refused n d → ((m.cells ≤ c) × (n ≡ 2)) ⊎ ((c < m.cells) × (found (m.lists c) ≡ refused n d))
-      by true b q = inr (ltb_true c m.cells b, q)
-      by false b q = inl (ltb_false c m.cells b, let z : n ≡ 2 = cc in z)
+      by true b q = inr (ltb-true c m.cells b, q)
+      by false b q = inl (ltb-false c m.cells b, let z : n ≡ 2 = cc in z)
 
   pub visible_refused : (f : ℕ) (free : ℕ → ℕ) (c n d : ℕ) → search (visible f) (table_of free m) c ≡ refused n d → ((m.cells ≤ c) × (n ≡ 2)) ⊎ ((c < m.cells) × VisibleSays f (λ u. under u (m.lists c)) (refused n d))
   visible_refused f free c n d e = ⊎_elim

@@ -1,5 +1,5 @@
 -- An open pass: its operations beside its sets, read by read and write by write.
-use Rattle.std.proofs.Common.{◌≡◌, ℕ, zero, suc, ◌-◌, Bool, true, false, cond, eqb, ◌⊎◌, List, [], ◌∷◌, ◌++◌, length, take, Some, None, Option, sym, refl, ap, ◌∙◌, subst, inl, inr, ⊎_elim, arith, eqb_true}
+use Rattle.std.proofs.Common.{◌≡◌, ℕ, zero, suc, ◌-◌, Bool, true, false, cond, eqb, ◌⊎◌, List, [], ◌∷◌, ◌++◌, length, take, Some, None, Option, sym, refl, ap, ◌∙◌, subst, inl, inr, ⊎_elim, arith, eqb-true}
 use Rattle.std.proofs.lemmas.Bool.{cases_Bool}
 use Rattle.std.proofs.lemmas.Bool.Decides.{nat_tests}
 use Rattle.rules.specs.declared.entry.ReadEntry.{ReadEntry}
@@ -65,7 +65,7 @@ replaced_nth [] e j f h = absurd (grind arith)
 replaced_nth (g ∷ gs) e j f h = by (eqb g.cell e.cell) refl (eqb j 0) refl (λ h'. replaced_nth gs e (j - 1) f h')
   where
     by : (b : Bool) → eqb g.cell e.cell ≡ b → (z : Bool) → eqb j 0 ≡ z → (nth (replaced e gs) (j - 1) ≡ Some f → (o : WriteEntry) × (nth gs (j - 1) ≡ Some o) × (o.cell ≡ f.cell)) → (o : WriteEntry) × (nth (g ∷ gs) j ≡ Some o) × (o.cell ≡ f.cell)
-    by true p true q ih = (g, grind arith, eqb_true g.cell e.cell p ∙ ap (λ (z : WriteEntry). z.cell) (some_same e f (grind arith)))
+    by true p true q ih = (g, grind arith, eqb-true g.cell e.cell p ∙ ap (λ (z : WriteEntry). z.cell) (some_same e f (grind arith)))
     by true p false q ih = (f, grind arith, refl)
     by false p true q ih = (g, grind arith, ap (λ (z : WriteEntry). z.cell) (some_same g f (grind arith)))
     by false p false q ih = let r = ih (grind arith) in (r.0, let z = r.1 in grind arith, r.2)
@@ -107,7 +107,7 @@ local_own ops rs ws c e own l = record {
 find_nth : (c : ℕ) (rs : List ReadEntry) (g : ReadEntry) → find_read c rs ≡ Some g → (j : ℕ) × (nth rs j ≡ Some g) × (g.cell ≡ c)
 find_nth c [] g h = absurd (grind arith)
 find_nth c (r ∷ rs) g h = ⊎_elim
-    (λ (b : eqb r.cell c ≡ true). (0, grind arith, ap (λ (z : ReadEntry). z.cell) (some_same g r (grind arith)) ∙ eqb_true r.cell c b))
+    (λ (b : eqb r.cell c ≡ true). (0, grind arith, ap (λ (z : ReadEntry). z.cell) (some_same g r (grind arith)) ∙ eqb-true r.cell c b))
     (λ (b : eqb r.cell c ≡ false). let f = find_nth c rs g (grind arith) in (suc f.0, let z = f.1 in grind (arith, nat_tests), f.2))
     (cases_Bool (eqb r.cell c))
 

@@ -1,5 +1,5 @@
 -- What commit and abort make of the lists, by stamps: every version of the pass ends, and no other.
-use Rattle.std.proofs.Common.{◌≡◌, ℕ, suc, ◌<◌, true, false, cond, ◌&&◌, eqb, List, [], ◌∷◌, is_some, Some, None, Option, sym, refl, ap, ◌∙◌, subst, ⊎_elim, arith, eqb_true}
+use Rattle.std.proofs.Common.{◌≡◌, ℕ, suc, ◌<◌, true, false, cond, ◌&&◌, eqb, List, [], ◌∷◌, is_some, Some, None, Option, sym, refl, ap, ◌∙◌, subst, ⊎_elim, arith, eqb-true}
 use Rattle.std.proofs.lemmas.Bool.{cases_eq, cases_Bool}
 use Rattle.std.proofs.lemmas.Bool.Decides.{nat_tests}
 use Rattle.words.specs.Status.{pending}
@@ -18,7 +18,7 @@ use Rattle.law.proofs.Under.{under, change, under_changed, some_pending, pending
 value_nth : (ws : List WriteEntry) (c v : ℕ) → value_in ws c ≡ Some v → (j : ℕ) × ((e : WriteEntry) × (nth ws j ≡ Some e) × (e.cell ≡ c))
 value_nth [] c v h = absurd (grind arith)
 value_nth (e ∷ es) c v h = ⊎_elim
-    (λ (b : eqb e.cell c ≡ true). (0, (e, refl, eqb_true e.cell c b)))
+    (λ (b : eqb e.cell c ≡ true). (0, (e, refl, eqb-true e.cell c b)))
     (λ (b : eqb e.cell c ≡ false). let r = value_nth es c v (grind arith) in (suc r.0, (r.1.0, let z = r.1.1 in grind (arith, nat_tests), r.1.2)))
     (cases_Bool (eqb e.cell c))
 

@@ -1,5 +1,5 @@
 -- Parts of sets, and the one entry that is found.
-use Rattle.std.proofs.Common.{◌≡◌, ℕ, zero, suc, ◌<◌, ◌≤◌, true, false, cond, eqb, ◌⊎◌, List, [], ◌∷◌, length, take, Some, None, refl, inl, inr, ⊎_elim, arith, eqb_true}
+use Rattle.std.proofs.Common.{◌≡◌, ℕ, zero, suc, ◌<◌, ◌≤◌, true, false, cond, eqb, ◌⊎◌, List, [], ◌∷◌, length, take, Some, None, refl, inl, inr, ⊎_elim, arith, eqb-true}
 use Rattle.std.proofs.lemmas.Bool.{cases_Bool}
 use Rattle.std.proofs.lemmas.Bool.Decides.{nat_tests}
 use Rattle.rules.specs.declared.entry.WriteEntry.{WriteEntry}
@@ -43,7 +43,7 @@ nth_short (y ∷ ys) (suc j) x h = grind (arith, nat_tests, nth_short ys j x)
 pub value_step : (n : ℕ) (ws : List WriteEntry) (c v : ℕ) → value_in (take (suc n) ws) c ≡ Some v → (value_in (take n ws) c ≡ Some v) ⊎ ((e : WriteEntry) × (nth ws n ≡ Some e) × (e.cell ≡ c))
 value_step n [] c v h = absurd (grind arith)
 value_step zero (f ∷ fs) c v h = ⊎_elim
-    (λ (b : eqb f.cell c ≡ true). inr (f, refl, eqb_true f.cell c b))
+    (λ (b : eqb f.cell c ≡ true). inr (f, refl, eqb-true f.cell c b))
     (λ (b : eqb f.cell c ≡ false). absurd (grind arith))
     (cases_Bool (eqb f.cell c))
 value_step (suc n) (f ∷ fs) c v h = ⊎_elim

@@ -1,5 +1,5 @@
 -- What the searches along a cell's list find, by stamps, where stamps fall.
-use Rattle.std.proofs.Common.{◌≡◌, ℕ, ◌^◌, ◌<◌, ◌≤◌, Bool, true, false, cond, eqb, ltb, ◌⊎◌, List, [], ◌∷◌, length, Some, None, Option, sym, refl, subst, inl, inr, ⊎_elim, arith, ltb_false, ltb_true, eqb_true}
+use Rattle.std.proofs.Common.{◌≡◌, ℕ, ◌^◌, ◌<◌, ◌≤◌, Bool, true, false, cond, eqb, ltb, ◌⊎◌, List, [], ◌∷◌, length, Some, None, Option, sym, refl, subst, inl, inr, ⊎_elim, arith, ltb-false, ltb-true, eqb-true}
 use Rattle.std.proofs.lemmas.Bool.{cases_Bool}
 use Rattle.std.proofs.lemmas.Bool.Decides.{nat_tests}
 use Rattle.words.specs.Outcome.{Outcome, accepted, refused, refuse}
@@ -54,7 +54,7 @@ first_found passed s v vs h lt e = record {
 
 under_first : (t : ℕ) (v : Version) (vs : List Version) (y : Version) → under t (v ∷ vs) ≡ Some y → ((t ≡ v.write) × (y ≡ v)) ⊎ (under t vs ≡ Some y)
 under_first t v vs y e = ⊎_elim
-    (λ (b : eqb v.write t ≡ true). inl (sym (eqb_true v.write t b), grind (arith, nat_tests)))
+    (λ (b : eqb v.write t ≡ true). inl (sym (eqb-true v.write t b), grind (arith, nat_tests)))
     (λ (b : eqb v.write t ≡ false). inr (grind (arith, nat_tests)))
     (cases_Bool (eqb v.write t))
 
@@ -92,9 +92,9 @@ visible_says s [] h = inr (refl, λ t y u. absurd (grind arith))
 visible_says s (v ∷ vs) h = by (ltb v.write s) refl v.status refl (visible_says s vs (falls_tail v vs h))
   where
     by : (b : Bool) → ltb v.write s ≡ b → (g : Status) → v.status ≡ g → VisibleSays s (stamps vs) (visible s vs) → VisibleSays s (stamps (v ∷ vs)) (cond b (by_status g (refuse (Wait v.write)) (accepted v) (visible s vs)) (visible s vs))
-    by false b g e ih = visible_passed s v vs (visible s vs) h (λ lt. absurd (omega (arith, ltb_false v.write s b))) ih
-    by true b Pending e ih = inl (refl, ltb_true v.write s b, (v, grind (arith, nat_tests), e))
-    by true b Committed e ih = first_found (λ g. g ≡ Aborted) s v vs h (ltb_true v.write s b) e
+    by false b g e ih = visible_passed s v vs (visible s vs) h (λ lt. absurd (omega (arith, ltb-false v.write s b))) ih
+    by true b Pending e ih = inl (refl, ltb-true v.write s b, (v, grind (arith, nat_tests), e))
+    by true b Committed e ih = first_found (λ g. g ≡ Aborted) s v vs h (ltb-true v.write s b) e
     by true b Aborted e ih = visible_passed s v vs (visible s vs) h (λ _. e) ih
 
 -- the newest committed version below s is passed over by all that are not committed
@@ -114,9 +114,9 @@ newest_says s [] h = λ t y u. absurd (grind arith)
 newest_says s (v ∷ vs) h = by (ltb v.write s) refl v.status refl (newest_says s vs (falls_tail v vs h))
   where
     by : (b : Bool) → ltb v.write s ≡ b → (g : Status) → v.status ≡ g → NewestSays s (stamps vs) (newest_below s vs) → NewestSays s (stamps (v ∷ vs)) (cond b (by_status g (newest_below s vs) (accepted v) (newest_below s vs)) (newest_below s vs))
-    by false b g e ih = newest_passed s v vs (newest_below s vs) h (λ lt. absurd (omega (arith, ltb_false v.write s b))) ih
+    by false b g e ih = newest_passed s v vs (newest_below s vs) h (λ lt. absurd (omega (arith, ltb-false v.write s b))) ih
     by true b Pending e ih = newest_passed s v vs (newest_below s vs) h (λ _ c. let z : ◌≡◌ {A = ℕ} 0 1 = cc in omega arith) ih
-    by true b Committed e ih = first_found Uncommitted s v vs h (ltb_true v.write s b) e
+    by true b Committed e ih = first_found Uncommitted s v vs h (ltb-true v.write s b) e
     by true b Aborted e ih = newest_passed s v vs (newest_below s vs) h (λ _ c. let z : ◌≡◌ {A = ℕ} 0 1 = cc in omega arith) ih
 
 -- the newest committed version is the newest below a bound of the list

@@ -1,5 +1,5 @@
 -- Which entry of which set the next step of a sealed pass is about.
-use Rattle.std.proofs.Common.{◌≡◌, ℕ, ◌+◌, ◌-◌, ◌*◌, ◌≤◌, Bool, true, false, cond, ltb, List, length, Some, None, Option, refl, ltb_false}
+use Rattle.std.proofs.Common.{◌≡◌, ℕ, ◌+◌, ◌-◌, ◌*◌, ◌≤◌, Bool, true, false, cond, ltb, List, length, Some, None, Option, refl, ltb-false}
 use Rattle.rules.specs.declared.entry.ReadEntry.{ReadEntry}
 use Rattle.rules.specs.declared.entry.WriteEntry.{WriteEntry}
 use Rattle.rules.specs.Sets.{nth}
@@ -39,12 +39,12 @@ module _ (rs : List ReadEntry) (ws : List WriteEntry) (k : ℕ) where
 
       three : length ws + length rs ≤ k → (b : Bool) → ltb k (length ws + 2 * length rs) ≡ b → Turn (cond b (step_read to_check_read (nth rs (k - (length ws + length rs)))) (cond (ltb k (steps rs ws)) (step_write to_check_write (nth ws (k - (length ws + 2 * length rs)))) finished))
       three le true e = check_read le (nth rs (k - (length ws + length rs))) refl
-      three le false e = four (ltb_false k (length ws + 2 * length rs) e) (ltb k (steps rs ws)) refl
+      three le false e = four (ltb-false k (length ws + 2 * length rs) e) (ltb k (steps rs ws)) refl
 
       two : length ws ≤ k → (b : Bool) → ltb k (length ws + length rs) ≡ b → Turn (cond b (step_read to_stamp (nth rs (k - length ws))) (cond (ltb k (length ws + 2 * length rs)) (step_read to_check_read (nth rs (k - (length ws + length rs)))) (cond (ltb k (steps rs ws)) (step_write to_check_write (nth ws (k - (length ws + 2 * length rs)))) finished)))
       two le true e = stamp le (nth rs (k - length ws)) refl
-      two le false e = three (ltb_false k (length ws + length rs) e) (ltb k (length ws + 2 * length rs)) refl
+      two le false e = three (ltb-false k (length ws + length rs) e) (ltb k (length ws + 2 * length rs)) refl
 
       one : (b : Bool) → ltb k (length ws) ≡ b → Turn (cond b (step_write to_install (nth ws k)) (cond (ltb k (length ws + length rs)) (step_read to_stamp (nth rs (k - length ws))) (cond (ltb k (length ws + 2 * length rs)) (step_read to_check_read (nth rs (k - (length ws + length rs)))) (cond (ltb k (steps rs ws)) (step_write to_check_write (nth ws (k - (length ws + 2 * length rs)))) finished))))
       one true e = install (nth ws k) refl
-      one false e = two (ltb_false k (length ws) e) (ltb k (length ws + length rs)) refl
+      one false e = two (ltb-false k (length ws) e) (ltb k (length ws + length rs)) refl

@@ -1,5 +1,5 @@
 -- The calls of each family, from one worker to the map.
-use Rattle.std.proofs.Common.{◌≡◌, ℕ, ◌<◌, List, [], length, get_or, set, Ok, Err, vec_items, Result, sym, refl, ap, ◌∙◌, subst, lt_ltb, MatchResult}
+use Rattle.std.proofs.Common.{◌≡◌, ℕ, ◌<◌, List, [], length, get_or, set, Ok, Err, vec_items, Result, sym, refl, ap, ◌∙◌, subst, lt-ltb, MatchResult}
 use Rattle.words.specs.Outcome.{Outcome, accepted, refused, refuse, told}
 use Rattle.words.specs.declared.refusal.Refusal.{Refusal}
 use Rattle.words.specs.declared.version.Version.{Version}
@@ -62,7 +62,7 @@ module _ (t u : Table) (i : Inner) (w : ℕ) (x y : Place) (within : w < i.count
   -- of a cell that is there
   module _ (c : ℕ) (there : c < t.cells) where
     at_cell : (f : Worker → Came Worker) → at_worker (plate t i) w f ≡ with_a_worker (plate t i) w (with_a_cell (plate t i) c (in_place (plate t i) w (f (seated xs w))))
-    at_cell f = sym (rw (lt_ltb c t.cells there))
+    at_cell f = sym (rw (lt-ltb c t.cells there))
 
     pub write_performed : (value : ℕ) → (a, shape y) ≡ write_by c value (shape x) → Performed t i (Write w c value) a t j
     write_performed value h = performed t t i j _ a (alone (write_by c value) h ∙ at_cell (write_by c value)) (none_beneath t a)
@@ -79,7 +79,7 @@ module _ (t u : Table) (i : Inner) (w : ℕ) (x y : Place) (within : w < i.count
   -- the other's clock is read in its place
   pub sync_performed : (o : ℕ) (z : Place) (time : ℕ) → o < i.count → o < length (vec_items i.workers) → z ≡ get_or (vec_items i.workers) o z → time ≡ z.clock → (a, shape y) ≡ sync_by time (shape x) → Performed t i (Sync w o) a t j
   sync_performed o z time in' seat at clock h = performed t t i j _ a (alone (sync_by (seated xs o).clock) (subst (λ k. (a, shape y) ≡ sync_by k (shape x)) (clock ∙ ap (λ (q : Worker). q.clock) (ap shape at ∙ sym (seated_at xs o z seat))) h) ∙
-      ap (λ d. with_a_worker (plate t i) w d) (sym (rw (lt_ltb o i.count in')))) (none_beneath t a)
+      ap (λ d. with_a_worker (plate t i) w d) (sym (rw (lt-ltb o i.count in')))) (none_beneath t a)
 
   -- commit, and one more commit counted where it is accepted
   pub commit_refused : (n d : ℕ) → a ≡ refused n d → (a, (shape y, u.versions)) ≡ commit_by t w (shape x) → StepsUpon t a (commit_calls w (shape x)) u → Performed t i (Commit w) a u j

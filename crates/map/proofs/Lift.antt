@@ -1,5 +1,5 @@
 -- A call that changed one worker in its place is the rules' call on the whole map.
-use Rattle.std.proofs.Common.{◌≡◌, ℕ, ◌<◌, ◌≤◌, List, [], ◌∷◌, map, length, get_or, set, replicate, vec_items, sym, refl, ap, ◌∙◌, subst, le_ltb, lt_ltb}
+use Rattle.std.proofs.Common.{◌≡◌, ℕ, ◌<◌, ◌≤◌, List, [], ◌∷◌, map, length, get_or, set, replicate, vec_items, sym, refl, ap, ◌∙◌, subst, le-ltb, lt-ltb}
 use Rattle.words.specs.Outcome.{Outcome, accepted, refused}
 use Rattle.words.specs.declared.refusal.Refusal.TheVariants.{NoWorker}
 use Rattle.tables.specs.Table.{Table, Cleared}
@@ -49,7 +49,7 @@ over t xs n m = record { workers = n; worker = seated xs; cells = t.cells; lists
 
 -- no such worker
 pub no_worker : (m : Model) (w : ℕ) (d : Done) → m.workers ≤ w → deny NoWorker m ≡ with_a_worker m w d
-no_worker m w d le = rw (le_ltb w m.workers le)
+no_worker m w d le = rw (le-ltb w m.workers le)
 
 module _ (t u : Table) (xs : List Place) (n m w : ℕ) (x y : Place) (within : w < n) (places : w < length xs) (is : x ≡ get_or xs w x) (a : Outcome ℕ) where
   pub here : seated xs w ≡ shape x
@@ -58,12 +58,12 @@ module _ (t u : Table) (xs : List Place) (n m w : ℕ) (x y : Place) (within : w
   pub lifted : (f : Worker → Came Worker) → (a, shape y) ≡ f (shape x) → (a, over t (set xs w y) n m) ≡ at_worker (over t xs n m) w f
   lifted f h =
       (λ i. (a, record { workers = n; worker = seated_set xs w y places i; cells = t.cells; lists = t.versions; commits = m })) ∙
-      ap (in_place (over t xs n m) w) (h ∙ ap f (sym here)) ∙ sym (rw (lt_ltb w n within))
+      ap (in_place (over t xs n m) w) (h ∙ ap f (sym here)) ∙ sym (rw (lt-ltb w n within))
 
   pub lifted_both : (f : Worker → Came (Worker × Lists)) → u.cells ≡ t.cells → (a, (shape y, u.versions)) ≡ f (shape x) → (a, over u (set xs w y) n m) ≡ at_both (over t xs n m) w f
   lifted_both f same h =
       (λ i. (a, record { workers = n; worker = seated_set xs w y places i; cells = same i; lists = u.versions; commits = m })) ∙
-      ap (in_both (over t xs n m) w) (h ∙ ap f (sym here)) ∙ sym (rw (lt_ltb w n within))
+      ap (in_both (over t xs n m) w) (h ∙ ap f (sym here)) ∙ sym (rw (lt-ltb w n within))
 
 -- a map just made is the rules' new map
 pub made_map : (t u : Table) (i : Inner) (n : ℕ) → Cleared t u → map shape (vec_items i.workers) ≡ replicate 16 new_worker → i.count ≡ workers_of n → i.commits ≡ 0 → plate u i ≡ new_map n t.cells

@@ -1,6 +1,6 @@
 -- A loop that keeps the lesser finds the least.
 use Rattle.std.proofs.Common.{◌≡◌, ℕ, zero, suc, ◌+◌, ◌-◌, ◌<◌, ◌≤◌, min, List, [], ◌∷◌, length, take, Some, None, sym, refl, ap, ◌∙◌, arith}
-use Rattle.std.proofs.lemmas.List.{length_take}
+use Rattle.std.proofs.lemmas.List.{length-take}
 use Rattle.std.proofs.lemmas.Bool.Decides.{nat_tests}
 use Rattle.rules.specs.Model.{Stage, idle, open', sealed, looking, Worker}
 use Rattle.rules.specs.Stamps.{least, look_floor}
@@ -68,5 +68,5 @@ seated_take (suc n) (x ∷ xs) (suc w) h = let r = seated_take n xs w (omega ari
 
 pub least_used : (F : Worker → ℕ → ℕ) (n : ℕ) (xs : List Place) → n ≤ length xs → 0 < n → least (λ w. F (seated (take n xs) w) w) (length (take n xs) - 1) ≡ least (λ w. F (seated xs w) w) (n - 1)
 least_used F n xs le pos =
-    let z : length (take n xs) ≡ n = length_take n xs ∙ omega arith in
+    let z : length (take n xs) ≡ n = length-take n xs ∙ omega arith in
     ap (λ k. least (λ w. F (seated (take n xs) w) w) (k - 1)) z ∙ least_same (λ w. F (seated (take n xs) w) w) (λ w. F (seated xs w) w) (n - 1) (λ j l. ap (λ (q : Worker). F q j) (seated_take n xs j (omega arith)))

@@ -2,8 +2,8 @@
 -- other rows stay.
 use Rattle.std.proofs.Common.{◌≡◌, ℕ, zero, suc, ◌-◌, ◌^◌, ◌<◌, ◌≤◌, true, cond, List, [], ◌∷◌, map, length, get_or, set, replicate, is_ok, Ok, Err, Result, sym, refl, ap, ◌∙◌, subst, ⊎_elim, arith, MatchResult}
 use mathlib.Core.Path.{subst⁻¹, fun_ext}
-use Rattle.std.proofs.lemmas.List.{get_or_map, map_set, get_or_set_same, get_or_set_other, length_map, get_or_replicate, get_or_past, length_replicate, length_take_le}
-use Rattle.std.proofs.lemmas.Bool.{cases_eq, cases_lt, lt_ltb, le_ltb}
+use Rattle.std.proofs.lemmas.List.{get_or-map, map-set, get_or-set_same, get_or-set_other, length-map, get_or-replicate, get_or_past, length-replicate, length-take-le}
+use Rattle.std.proofs.lemmas.Bool.{cases_eq, cases_lt, lt-ltb, le-ltb}
 use Rattle.std.proofs.lemmas.Bool.Decides.{nat_tests}
 use Rattle.words.specs.Outcome.{Outcome, told}
 use Rattle.words.specs.declared.refusal.Refusal.{Refusal}
@@ -23,22 +23,22 @@ abbrev pub mean : List Row → Table
 mean rows = eight_places 128 (row_lists rows)
 
 pub row_short : (r : Row) → length (row_list r) ≤ 8
-row_short r = omega (arith, length_take_le r.len r.versions (omega (arith, r.full, r.short)), r.short)
+row_short r = omega (arith, length-take-le r.len r.versions (omega (arith, r.full, r.short)), r.short)
 
 module _ (rows : List Row) (c : ℕ) (d : Row) (within : c < length rows) where
   -- the list of the cell is the list of its row
   pub at_row : row_lists rows c ≡ row_list (get_or rows c d)
-  at_row = get_or_map row_list rows c d [] within
+  at_row = get_or-map row_list rows c d [] within
 
   set_row : (r : Row) → row_lists (set rows c r) ≡ put (row_lists rows) c (row_list r)
   set_row r =
       fun_ext (λ q.
-      ap (λ (l : List (List Version)). get_or l q []) (map_set row_list rows c r) ∙
+      ap (λ (l : List (List Version)). get_or l q []) (map-set row_list rows c r) ∙
       ⊎_elim
       (λ (e : q ≡ c).
       subst (λ (k : ℕ). get_or (set (map row_list rows) c (row_list r)) k [] ≡ put (row_lists rows) c (row_list r) k) (sym e)
-      (get_or_set_same (map row_list rows) c (row_list r) [] (omega (arith, length_map rows row_list)) ∙ sym (put_here (row_lists rows) c (row_list r))))
-      (λ ne. get_or_set_other (map row_list rows) c q (row_list r) [] ne ∙ sym (put_other (row_lists rows) c (row_list r) q ne))
+      (get_or-set_same (map row_list rows) c (row_list r) [] (omega (arith, length-map rows row_list)) ∙ sym (put_here (row_lists rows) c (row_list r))))
+      (λ ne. get_or-set_other (map row_list rows) c q (row_list r) [] ne ∙ sym (put_other (row_lists rows) c (row_list r) q ne))
       (cases_eq q c))
 
   -- what is said of the row's list is said of the cell's
@@ -54,7 +54,7 @@ module _ (rows : List Row) (c : ℕ) (d : Row) (within : c < length rows) where
 
   module _ (in' : c < 128) where
     pub row_answers : {A : Type 0} (answer : List Version → Outcome A) (o : Outcome A) → o ≡ answer (row_list (get_or rows c d)) → o ≡ in_cell (mean rows) c (answer (row_lists rows c))
-    row_answers answer o e = rw (lt_ltb c 128 in') (said (λ (vs : List Version). o ≡ answer vs) e)
+    row_answers answer o e = rw (lt-ltb c 128 in') (said (λ (vs : List Version). o ≡ answer vs) e)
 
     pub row_inserts : (s x : ℕ) (r : Row) (res : Result ℕ Refusal) → told res ≡ insert_in (row_list (get_or rows c d)) (8 - length (row_list (get_or rows c d))) s → row_list r ≡ cond (is_ok res) (with_version (new_version s x) (row_list (get_or rows c d))) (row_list (get_or rows c d)) → MatchResult res (λ _. Inserted (mean rows) (mean (set rows c r)) c s x) (λ _. mean (set rows c r) ≡ mean rows)
     row_inserts s x r res a e =
@@ -82,8 +82,8 @@ pub rows_cleared : (r : Row) → row_list r ≡ first_version ∷ [] → row_lis
 rows_cleared r e =
     fun_ext (λ c.
     ⊎_elim
-    (λ (l : c < 128). get_or_map row_list (replicate 128 r) c r [] (omega (arith, length_replicate 128 r)) ∙ ap row_list (get_or_replicate 128 c r r l) ∙ e ∙ sym (ap (λ b. cond b (first_version ∷ []) []) (lt_ltb c 128 l)))
-    (λ l. get_or_past (map row_list (replicate 128 r)) c [] (omega (arith, length_map (replicate 128 r) row_list, length_replicate 128 r)) ∙ sym (ap (λ b. cond b (first_version ∷ []) []) (le_ltb c 128 l)))
+    (λ (l : c < 128). get_or-map row_list (replicate 128 r) c r [] (omega (arith, length-replicate 128 r)) ∙ ap row_list (get_or-replicate 128 c r r l) ∙ e ∙ sym (ap (λ b. cond b (first_version ∷ []) []) (lt-ltb c 128 l)))
+    (λ l. get_or_past (map row_list (replicate 128 r)) c [] (omega (arith, length-map (replicate 128 r) row_list, length-replicate 128 r)) ∙ sym (ap (λ b. cond b (first_version ∷ []) []) (le-ltb c 128 l)))
     (cases_lt c 128))
 
 pub row_clear : (rows : List Row) (r : Row) → row_list r ≡ first_version ∷ [] → Cleared (mean rows) (mean (replicate 128 r))
@@ -92,7 +92,7 @@ row_clear rows r e =
     record {
       cells = refl;
       versions = lists;
-      free = λ c l. omega (arith, ap (λ (f : ℕ → List Version). length (f c)) lists, ap (λ b. length (cond b (first_version ∷ []) [])) (lt_ltb c 128 l));
+      free = λ c l. omega (arith, ap (λ (f : ℕ → List Version). length (f c)) lists, ap (λ b. length (cond b (first_version ∷ []) [])) (lt-ltb c 128 l));
     }
 
 -- every row is short, so its free places are just what its versions leave

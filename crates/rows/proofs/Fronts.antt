@@ -1,7 +1,7 @@
 -- The list of a row is the front of its array: what a write to the array makes of it.
 use Rattle.std.proofs.Common.{◌≡◌, ℕ, zero, suc, ◌+◌, ◌<◌, ◌≤◌, Bool, List, [], ◌∷◌, length, get_or, take, set, sym, refl, ap, ◌∙◌, arith, rules}
 use Rattle.std.specs.List.{insert}
-use Rattle.std.proofs.lemmas.List.{length_take_le, same_lists, places, get_or_set_same}
+use Rattle.std.proofs.lemmas.List.{length-take-le, same_lists, places, get_or-set_same}
 use Rattle.std.proofs.lemmas.Bool.{cases_eq}
 use Rattle.words.specs.declared.version.Version.{Version}
 use Rattle.words.specs.Version.{absent}
@@ -13,7 +13,7 @@ use Rattle.rows.proofs.Found.{place_le, with_version_is}
 
 -- one of the front's versions replaced
 pub front_set : (n : ℕ) (vs : List Version) (i : ℕ) (v : Version) → i < n → n ≤ length vs → take n (set vs i v) ≡ set (take n vs) i v
-front_set n vs i v l h = same_lists _ _ (search (rules, places)) (λ j d g. grind (arith, places, get_or_set_same, cases_eq j i))
+front_set n vs i v l h = same_lists _ _ (search (rules, places)) (λ j d g. grind (arith, places, get_or-set_same, cases_eq j i))
 
 -- a version pushed in among the front's
 pub front_pushed : (vs : List Version) (n at : ℕ) (v : Version) → n < length vs → at ≤ n → take (n + 1) (take (length vs) (insert vs at v)) ≡ insert (take n vs) at v
@@ -22,7 +22,7 @@ front_pushed vs n at v l a = same_lists _ _ (search (rules, places)) (λ j d h. 
 -- a place within the list of a row is within the row
 pub place_within : (r : Row) (s at : ℕ) → at ≡ place s (row_list r) → at ≤ r.len
 place_within r s at is =
-    omega (arith, place_le s (row_list r), length_take_le r.len r.versions (omega (arith, r.full, r.short)))
+    omega (arith, place_le s (row_list r), length-take-le r.len r.versions (omega (arith, r.full, r.short)))
 
 -- a version replaced by one of the same stamp keeps the order
 pub ordered_set : (test : ℕ → ℕ → Bool) (n : ℕ) (vs : List Version) (i : ℕ) (v : Version) → v.write ≡ (get_or vs i absent).write → ordered test n (set vs i v) ≡ ordered test n vs

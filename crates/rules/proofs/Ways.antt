@@ -1,6 +1,6 @@
 -- The ways in which a call can come out, each with what its tests told. Whatever holds of each way holds of
 -- every call; the rules are taken apart here, once.
-use Rattle.std.proofs.Common.{◌≡◌, ℕ, ◌+◌, ◌<◌, ◌≤◌, min, max, Bool, true, false, cond, eqb, ltb, List, [], ◌∷◌, ◌++◌, length, take, Some, None, Option, sym, refl, subst, arith, ltb_false, ltb_true, eqb_true}
+use Rattle.std.proofs.Common.{◌≡◌, ℕ, ◌+◌, ◌<◌, ◌≤◌, min, max, Bool, true, false, cond, eqb, ltb, List, [], ◌∷◌, ◌++◌, length, take, Some, None, Option, sym, refl, subst, arith, ltb-false, ltb-true, eqb-true}
 use Rattle.std.proofs.lemmas.Bool.Decides.{nat_tests}
 use Rattle.words.specs.Outcome.{Outcome, accepted, refused}
 use Rattle.words.specs.Refusal.{number, detail}
@@ -140,7 +140,7 @@ module _ (free : ℕ → ℕ) (m : Model) where
   module _ (Q : Call → Done → Type 0) (ways : Ways Q) where
     -- the first tests
     with_worker_first : (call : Call) (w : ℕ) (x : Done) → (w < m.workers → Q call x) → Q call (with_a_worker m w x)
-    with_worker_first call w x h = tested call (Q call) m (ways.refuses call) (ltb w m.workers) x (deny NoWorker m) (λ b. h (ltb_true w m.workers b)) (λ _. denied call (Q call) m (ways.refuses call) NoWorker refl)
+    with_worker_first call w x h = tested call (Q call) m (ways.refuses call) (ltb w m.workers) x (deny NoWorker m) (λ b. h (ltb-true w m.workers b)) (λ _. denied call (Q call) m (ways.refuses call) NoWorker refl)
 
     with_cell_first : (call : Call) (c : ℕ) (x : Done) → Q call x → Q call (with_a_cell m c x)
     with_cell_first call c x h = tested call (Q call) m (ways.refuses call) (ltb c m.cells) x (deny NoCell m) (λ _. h) (λ _. denied call (Q call) m (ways.refuses call) NoCell refl)
@@ -172,7 +172,7 @@ module _ (free : ℕ → ℕ) (m : Model) where
           let late = ltb last_clock (adjusted x units) in
           let next : Came Worker = accept (timestamp (adjusted x units) w) (ticked x units g) in
           idle_only call (Put call) x (staying_refused w call) x.stage (cond late (deny ClockSpent x) next) (λ was.
-          tested call (Put call) x (staying_refused w call) late (deny ClockSpent x) next (λ _. denied call (Put call) x (staying_refused w call) ClockSpent refl) (λ b. h was (ltb_false last_clock (adjusted x units) b)))
+          tested call (Put call) x (staying_refused w call) late (deny ClockSpent x) next (λ _. denied call (Put call) x (staying_refused w call) ClockSpent refl) (λ b. h was (ltb-false last_clock (adjusted x units) b)))
 
       module _ (c : ℕ) where
         reading_new : (rs : List ReadEntry) (ws : List WriteEntry) → (m.worker w).stage ≡ open' rs ws → find_write c ws ≡ None
@@ -245,14 +245,14 @@ module _ (free : ℕ → ℕ) (m : Model) where
             let next : Came Worker = accept (steps_left rs ws k) (one_on x rs ws k) in
             passing (Check w) (Put (Check w)) x (staying_refused w (Check w)) (search (visible (last_stamp m w)) (table_of free m) e.cell) (λ v. cond (eqb v.write e.stamp) next (deny Changed x))
             (λ v seen. tested (Check w) (Put (Check w)) x (staying_refused w (Check w)) (eqb v.write e.stamp) next (deny Changed x)
-            (λ b. ways.checks_read w rs ws k e v within was is seen (eqb_true v.write e.stamp b)) (λ _. denied (Check w) (Put (Check w)) x (staying_refused w (Check w)) Changed refl))
+            (λ b. ways.checks_read w rs ws k e v within was is seen (eqb-true v.write e.stamp b)) (λ _. denied (Check w) (Put (Check w)) x (staying_refused w (Check w)) Changed refl))
             (λ n d no''. at_check w rs ws k e.cell refl within was no'')
         checking (to_check_write e) is =
             let x = m.worker w in
             let next : Came Worker = accept (steps_left rs ws k) (one_on x rs ws k) in
             passing (Check w) (Put (Check w)) x (staying_refused w (Check w)) (search (visible (last_stamp m w)) (table_of free m) e.cell) (λ v. cond (ltb (last_stamp m w) v.read) (deny ReadLater x) next)
             (λ v seen. tested (Check w) (Put (Check w)) x (staying_refused w (Check w)) (ltb (last_stamp m w) v.read) (deny ReadLater x) next
-            (λ _. denied (Check w) (Put (Check w)) x (staying_refused w (Check w)) ReadLater refl) (λ b. ways.checks_write w rs ws k e v within was is seen (ltb_false (last_stamp m w) v.read b)))
+            (λ _. denied (Check w) (Put (Check w)) x (staying_refused w (Check w)) ReadLater refl) (λ b. ways.checks_write w rs ws k e v within was is seen (ltb-false (last_stamp m w) v.read b)))
             (λ n d no''. at_check w rs ws k e.cell refl within was no'')
         checking finished is = no_check
 
@@ -278,7 +278,7 @@ module _ (free : ℕ → ℕ) (m : Model) where
     committing w = tested (Commit w) Counted m (ways.refuses (Commit w)) (ltb w m.workers) (in_both m w (if_sealed (m.worker w).stage (m.worker w, m.lists) next)) (deny NoWorker m)
         (λ b. sealed_only (Commit w) (λ came. Counted (in_both m w came)) (m.worker w, m.lists) (staying_refused w (Commit w)) (m.worker w).stage next (λ rs ws k was.
         tested (Commit w) (λ came. Counted (in_both m w came)) (m.worker w, m.lists) (staying_refused w (Commit w)) (eqb k (steps rs ws)) (accept (last_stamp m w) (ends Commits' 0 (table_of free m) w ws (m.worker w))) (deny OutOfTurn (m.worker w, m.lists))
-        (λ e. ways.commits w rs ws k (ltb_true w m.workers b) was (eqb_true k (steps rs ws) e)) (λ _. staying_refused w (Commit w) 3 0 (by_itself refl))))
+        (λ e. ways.commits w rs ws k (ltb-true w m.workers b) was (eqb-true k (steps rs ws) e)) (λ _. staying_refused w (Commit w) 3 0 (by_itself refl))))
         (λ _. ways.refuses (Commit w) 1 0 (by_itself refl))
       where
         Counted : Done → Type 0

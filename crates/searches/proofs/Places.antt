@@ -1,5 +1,5 @@
 -- The place of an entry is that of the entry which the rules find, and which they replace.
-use Rattle.std.proofs.Common.{◌≡◌, ℕ, zero, suc, ◌+◌, ◌-◌, ◌<◌, ◌≤◌, Bool, true, false, cond, eqb, List, [], ◌∷◌, length, get_or, drop, set, Some, None, refl, ap, ◌∙◌, add_one, arith, drop_cons}
+use Rattle.std.proofs.Common.{◌≡◌, ℕ, zero, suc, ◌+◌, ◌-◌, ◌<◌, ◌≤◌, Bool, true, false, cond, eqb, List, [], ◌∷◌, length, get_or, drop, set, Some, None, refl, ap, ◌∙◌, add-one, arith, drop-cons}
 use Rattle.std.proofs.lemmas.Bool.Decides.{nat_tests}
 use Rattle.rules.specs.declared.entry.WriteEntry.{WriteEntry}
 use Rattle.rules.specs.Sets.{find, nth, replaced}
@@ -7,7 +7,7 @@ use Rattle.searches.specs.Place.{place}
 
 -- one turn of the search
 pub place_step : {E : Type 0} (f : E → ℕ) (c i : ℕ) (es : List E) (x : E) → i < length es → x ≡ get_or es i x → place f c i (drop i es) ≡ cond (eqb (f x) c) (Some i) (place f c (i + 1) (drop (i + 1) es))
-place_step f c i es x h e = rw (drop_cons es i x, ← e, add_one)
+place_step f c i es x h e = rw (drop-cons es i x, ← e, add-one)
 
 -- where none is found
 pub place_none : {E : Type 0} (f : E → ℕ) (c i : ℕ) (es : List E) → place f c i es ≡ None → find f c es ≡ None

@@ -1,6 +1,6 @@
 -- One turn of the search along a list: what is left gives what the whole gives.
-use Rattle.std.proofs.Common.{◌≡◌, ℕ, zero, suc, ◌+◌, ◌<◌, ◌≤◌, Bool, true, false, cond, ltb, List, [], ◌∷◌, length, get_or, take, drop, sym, refl, ap, ◌∙◌, subst, add_one, arith, lt_ltb}
-use Rattle.std.proofs.lemmas.List.{at_drop_all, length_take}
+use Rattle.std.proofs.Common.{◌≡◌, ℕ, zero, suc, ◌+◌, ◌<◌, ◌≤◌, Bool, true, false, cond, ltb, List, [], ◌∷◌, length, get_or, take, drop, sym, refl, ap, ◌∙◌, subst, add-one, arith, lt-ltb}
+use Rattle.std.proofs.lemmas.List.{at_drop_all, length-take}
 use Rattle.std.proofs.lemmas.Bool.Decides.{nat_tests}
 use Rattle.words.specs.Outcome.{Outcome, accepted, refused, refuse}
 use Rattle.words.specs.Version.{absent}
@@ -71,7 +71,7 @@ module _ (t : Table) (c i : ℕ) (s : Sought) (low : i < top) where
 
       by : (a b : Bool) → ltb c t.cells ≡ a → ltb i (length (t.versions c)) ≡ b → P (Left i)
       by false b p q = subst P (sym (let z : Left i ≡ refuse NoCell = rw p in z)) (no' 2 0 (sym e ∙ rw p))
-      by true true p q = subst P (sym (let z : Left i ≡ by_verdict (judged s (get_or (t.versions c) i absent)) (get_or (t.versions c) i absent) (Left (i + 1)) = rw (p, add_one) (ap (looks_for s) (here ∙ rw q) ∙ judge_step s (get_or (t.versions c) i absent) (drop (suc i) (reach (t.versions c)))) in z)) (yes' (get_or (t.versions c) i absent) (sym e ∙ rw (p, q)))
+      by true true p q = subst P (sym (let z : Left i ≡ by_verdict (judged s (get_or (t.versions c) i absent)) (get_or (t.versions c) i absent) (Left (i + 1)) = rw (p, add-one) (ap (looks_for s) (here ∙ rw q) ∙ judge_step s (get_or (t.versions c) i absent) (drop (suc i) (reach (t.versions c)))) in z)) (yes' (get_or (t.versions c) i absent) (sym e ∙ rw (p, q)))
       by true false p q = subst P (sym (let z : Left i ≡ refuse NoVersion = rw p (ap (looks_for s) (here ∙ rw q) ∙ none_left s) in z)) (no' 9 0 (sym e ∙ rw (p, q)))
 
   pub turn_refused : (o : Outcome Version) → o ≡ version_answer t c i → (n d : ℕ) → o ≡ refused n d → Left i ≡ refused n d
@@ -95,4 +95,4 @@ module _ (t : Table) (c i : ℕ) (s : Sought) (low : i < top) where
 
 -- past the last position
 pub turn_none : (t : Table) (c i : ℕ) (s : Sought) → top ≤ i → c < t.cells → in_cell t c (looks_for s (drop i (reach (t.versions c)))) ≡ refuse NoVersion
-turn_none t c i s le there = rw (lt_ltb c t.cells there) (at_drop_all (looks_for s) (reach (t.versions c)) i (let z = length_take top (t.versions c) in omega arith) ∙ none_left s)
+turn_none t c i s le there = rw (lt-ltb c t.cells there) (at_drop_all (looks_for s) (reach (t.versions c)) i (let z = length-take top (t.versions c) in omega arith) ∙ none_left s)

@@ -1,6 +1,6 @@
 -- What one spare place beside each cell makes of a table.
 use Rattle.std.specs.Prelude.{◌≡◌, ℕ, ◌+◌, ◌-◌, Bool, true, false, cond, List, Some, None, Option, ◌==◌, nat_le, nat_lt, slice_index_or, refl}
-use Rattle.std.proofs.lemmas.Bool.{leb_true}
+use Rattle.std.proofs.lemmas.Bool.{leb-true}
 use Rattle.words.specs.Outcome.{Outcome, accepted, refused}
 use Rattle.words.specs.declared.version.Version.{Version}
 use Rattle.tables.specs.Versions.{top, sinks, with_version, stays}
@@ -72,7 +72,7 @@ spare_sinks None vs sinking = sinking
 spare_sinks (Some v) vs sinking = by (nat_le v.write top) refl
   where
     by : (b : Bool) → nat_le v.write top ≡ b → sinks (with_spare (cond b (Some v) None) vs) ≡ true
-    by true e = sinks_with top v vs (leb_true v.write top e) sinking
+    by true e = sinks_with top v vs (leb-true v.write top e) sinking
     by false e = sinking
 
 -- what is known of every table is known of it with spare places

@@ -1,7 +1,7 @@
 -- How long a list is after each call, and what stands where after a change of one cell.
 use Rattle.std.proofs.Common.{◌≡◌, ℕ, ◌+◌, eqb, List, [], ◌∷◌, length, refl, arith}
 use mathlib.Core.Path.{fun_ext}
-use Rattle.std.proofs.lemmas.Bool.{eq_eqb, ne_eqb}
+use Rattle.std.proofs.lemmas.Bool.{eq-eqb, ne_eqb}
 use Rattle.std.proofs.lemmas.Bool.Decides.{nat_tests}
 use Rattle.words.specs.declared.version.Version.{Version}
 use Rattle.tables.specs.Versions.{with_version, at_stamp}
@@ -17,7 +17,7 @@ length_at_stamp s f (v ∷ vs) = grind (arith, nat_tests, length_at_stamp s f vs
 
 module _ {A : Type 0} (f : ℕ → A) (c : ℕ) where
   pub put_here : (x : A) → put f c x c ≡ x
-  put_here x = rw (eq_eqb c c refl)
+  put_here x = rw (eq-eqb c c refl)
 
   pub put_other : (x : A) (q : ℕ) → (q ≡ c → ⊥) → put f c x q ≡ f q
   put_other x q ne = rw (ne_eqb q c ne)

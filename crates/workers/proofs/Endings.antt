@@ -1,5 +1,5 @@
 -- commit and abort: what the marks of the writes make of the table and of the worker.
-use Rattle.std.proofs.Common.{◌≡◌, ℕ, suc, ◌+◌, ◌<◌, ◌≤◌, min, cond, eqb, List, length, get_or, take, drop, Result, sym, refl, ap, ◌∙◌, subst, arith, drop_cons, eq_eqb, MatchResult}
+use Rattle.std.proofs.Common.{◌≡◌, ℕ, suc, ◌+◌, ◌<◌, ◌≤◌, min, cond, eqb, List, length, get_or, take, drop, Result, sym, refl, ap, ◌∙◌, subst, arith, drop-cons, eq-eqb, MatchResult}
 use Rattle.std.proofs.lemmas.List.{drop_all}
 use Rattle.words.specs.Outcome.{accepted, told}
 use Rattle.words.specs.declared.refusal.Refusal.{Refusal}
@@ -25,7 +25,7 @@ no_entry = record { cell = 0; value = 0 }
 pub marks_next : (how : Ending) (s : ℕ) (ws : List WriteEntry) (i : ℕ) (t v u : Table) (r : Result ℕ Refusal) → i < length ws → told r ≡ mark_answer t (get_or ws i no_entry).cell s
     → MatchResult r (λ _. Altered t v (get_or ws i no_entry).cell s (marked how)) (λ _. v ≡ t) → Steps v (marks how s (drop (i + 1) ws)) u → Steps t (marks how s (drop i ws)) u
 marks_next how s ws i t v u r lt answer after rest =
-    subst (λ es. Steps t (marks how s es) u) (sym (drop_cons ws i no_entry lt))
+    subst (λ es. Steps t (marks how s es) u) (sym (drop-cons ws i no_entry lt))
     (v, told_upon _ _ r _ answer after, subst (λ n. Steps v (marks how s (drop n ws)) u) (let z : i + 1 ≡ suc i = omega arith in z) rest)
 
 pub marks_done : (how : Ending) (s : ℕ) (ws : List WriteEntry) (i : ℕ) (t : Table) → length ws ≤ i → Steps t (marks how s (drop i ws)) t
@@ -38,8 +38,8 @@ module _ (t u : Table) (w : ℕ) (x : Worker) (rs : List ReadEntry) (ws : List W
 
   pub committed : (k s : ℕ) → x.stage ≡ sealed rs ws k → k ≡ steps rs ws → s ≡ pass_stamp x w → Steps t (marks Commits' s ws) u
       → ((accepted s, (at_rest 0 x, u.versions)) ≡ commit_by t w x) × Steps t (commit_calls w x) u
-  committed k s was all stamp Marked_All = (
-    (λ i. (accepted (stamp i), (at_rest 0 x, u.versions))) ∙ ended Commits' 0 ws (pass_stamp x w) done ∙ sym (ap (λ g. if_sealed g (x, t.versions) next) was ∙ rw (eq_eqb k (steps rs ws) all)),
+  committed k s was all stamp Marked-All = (
+    (λ i. (accepted (stamp i), (at_rest 0 x, u.versions))) ∙ ended Commits' 0 ws (pass_stamp x w) done ∙ sym (ap (λ g. if_sealed g (x, t.versions) next) was ∙ rw (eq-eqb k (steps rs ws) all)),
     subst (λ g. Steps t (calls_if_sealed g (λ rs ws k. marks Commits' (pass_stamp x w) ws)) u) (sym was) done,
   )
     where
@@ -47,7 +47,7 @@ module _ (t u : Table) (w : ℕ) (x : Worker) (rs : List ReadEntry) (ws : List W
       next rs ws k = cond (eqb k (steps rs ws)) (accept (pass_stamp x w) (ends Commits' 0 t w ws x)) (deny OutOfTurn (x, t.versions))
 
       done : Steps t (marks Commits' (pass_stamp x w) ws) u
-      done = subst (λ s. Steps t (marks Commits' s ws) u) stamp Marked_All
+      done = subst (λ s. Steps t (marks Commits' s ws) u) stamp Marked-All
 
   pub aborted : (k n s : ℕ) → x.stage ≡ sealed rs ws k → n ≡ min k (length ws) → s ≡ pass_stamp x w → Steps t (marks Aborts' s (take n ws)) u
       → ((accepted n, (at_rest 10 x, u.versions)) ≡ abort_by t w x) × Steps t (abort_calls w x) u

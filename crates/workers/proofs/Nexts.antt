@@ -1,5 +1,5 @@
 -- The next step of a sealed pass, by how many are done, and what a step comes to.
-use Rattle.std.proofs.Common.{◌≡◌, ℕ, ◌+◌, ◌-◌, ◌*◌, ◌<◌, ◌≤◌, cond, eqb, ltb, List, length, get_or, Some, sym, refl, ap, ◌∙◌, subst, arith, le_ltb, lt_ltb, eq_eqb, ne_eqb}
+use Rattle.std.proofs.Common.{◌≡◌, ℕ, ◌+◌, ◌-◌, ◌*◌, ◌<◌, ◌≤◌, cond, eqb, ltb, List, length, get_or, Some, sym, refl, ap, ◌∙◌, subst, arith, le-ltb, lt-ltb, eq-eqb, ne_eqb}
 use Rattle.words.specs.Outcome.{Outcome, accepted, refuse}
 use Rattle.words.specs.Version.{new_version}
 use Rattle.words.specs.declared.refusal.Refusal.{Refusal}
@@ -19,19 +19,19 @@ use Rattle.searches.proofs.Places.{nth_at}
 
 module _ (rs : List ReadEntry) (ws : List WriteEntry) (k : ℕ) where
   pub next_install : (e : WriteEntry) → k < length ws → e ≡ get_or ws k e → next_step rs ws k ≡ to_install e
-  next_install e h is = rw (lt_ltb k (length ws) h) (ap (step_write to_install) (nth_at ws k e h ∙ ap Some (sym is)))
+  next_install e h is = rw (lt-ltb k (length ws) h) (ap (step_write to_install) (nth_at ws k e h ∙ ap Some (sym is)))
 
   pub next_stamp : (e : ReadEntry) → length ws ≤ k → k < length ws + length rs → e ≡ get_or rs (k - length ws) e → next_step rs ws k ≡ to_stamp e
-  next_stamp e le h is = rw (le_ltb k (length ws) le, lt_ltb k (length ws + length rs) h) (ap (step_read to_stamp) (nth_at rs (k - length ws) e (omega arith) ∙ ap Some (sym is)))
+  next_stamp e le h is = rw (le-ltb k (length ws) le, lt-ltb k (length ws + length rs) h) (ap (step_read to_stamp) (nth_at rs (k - length ws) e (omega arith) ∙ ap Some (sym is)))
 
   pub next_check_read : (e : ReadEntry) → length ws + length rs ≤ k → k < length ws + 2 * length rs → e ≡ get_or rs (k - (length ws + length rs)) e → next_step rs ws k ≡ to_check_read e
   next_check_read e le h is =
-      rw (le_ltb k (length ws) (omega arith), le_ltb k (length ws + length rs) le, lt_ltb k (length ws + 2 * length rs) h)
+      rw (le-ltb k (length ws) (omega arith), le-ltb k (length ws + length rs) le, lt-ltb k (length ws + 2 * length rs) h)
       (ap (step_read to_check_read) (nth_at rs (k - (length ws + length rs)) e (omega arith) ∙ ap Some (sym is)))
 
   pub next_check_write : (e : WriteEntry) → length ws + 2 * length rs ≤ k → k < steps rs ws → e ≡ get_or ws (k - (length ws + 2 * length rs)) e → next_step rs ws k ≡ to_check_write e
   next_check_write e le h is =
-      rw (le_ltb k (length ws) (omega arith), le_ltb k (length ws + length rs) (omega arith), le_ltb k (length ws + 2 * length rs) le, lt_ltb k (steps rs ws) h)
+      rw (le-ltb k (length ws) (omega arith), le-ltb k (length ws + length rs) (omega arith), le-ltb k (length ws + 2 * length rs) le, lt-ltb k (steps rs ws) h)
       (ap (step_write to_check_write) (nth_at ws (k - (length ws + 2 * length rs)) e (omega arith) ∙ ap Some (sym is)))
 
 module _ (t : Table) (w : ℕ) (x : Worker) (rs : List ReadEntry) (ws : List WriteEntry) (k : ℕ) (was : x.stage ≡ sealed rs ws k) where
@@ -92,13 +92,13 @@ module _ (t : Table) (w : ℕ) (x : Worker) (rs : List ReadEntry) (ws : List Wri
   checked_write e o is seen = ap (CheckWrite e) seen ∙ sym (check_is (to_check_write e) is)
 
   pub read_same : (e : ReadEntry) (v : Version) (y : Worker) (n : ℕ) → n ≡ steps_left rs ws k → y ≡ one_on x rs ws k → v.write ≡ e.stamp → (accepted n, y) ≡ CheckRead e (accepted v)
-  read_same e v y n en ey same = (λ i. (accepted (en i), ey i)) ∙ rw (eq_eqb v.write e.stamp same)
+  read_same e v y n en ey same = (λ i. (accepted (en i), ey i)) ∙ rw (eq-eqb v.write e.stamp same)
 
   pub read_other : (e : ReadEntry) (v : Version) → (v.write ≡ e.stamp → ⊥) → (refuse Changed, x) ≡ CheckRead e (accepted v)
   read_other e v other = rw (ne_eqb v.write e.stamp other)
 
   pub write_early : (e : WriteEntry) (v : Version) (y : Worker) (n : ℕ) → n ≡ steps_left rs ws k → y ≡ one_on x rs ws k → v.read ≤ pass_stamp x w → (accepted n, y) ≡ CheckWrite e (accepted v)
-  write_early e v y n en ey low = (λ i. (accepted (en i), ey i)) ∙ rw (le_ltb (pass_stamp x w) v.read low)
+  write_early e v y n en ey low = (λ i. (accepted (en i), ey i)) ∙ rw (le-ltb (pass_stamp x w) v.read low)
 
   pub write_late : (e : WriteEntry) (v : Version) → pass_stamp x w < v.read → (refuse ReadLater, x) ≡ CheckWrite e (accepted v)
-  write_late e v late = rw (lt_ltb (pass_stamp x w) v.read late)
+  write_late e v late = rw (lt-ltb (pass_stamp x w) v.read late)

@@ -1,5 +1,5 @@
 -- What a worker's rule comes to in a known stage, by what its tests tell.
-use Rattle.std.proofs.Common.{◌≡◌, ℕ, ◌+◌, ◌-◌, ◌<◌, ◌≤◌, List, [], ◌∷◌, ◌++◌, length, get_or, set, Some, None, Option, sym, refl, ap, ◌∙◌, arith, le_ltb, lt_ltb}
+use Rattle.std.proofs.Common.{◌≡◌, ℕ, ◌+◌, ◌-◌, ◌<◌, ◌≤◌, List, [], ◌∷◌, ◌++◌, length, get_or, set, Some, None, Option, sym, refl, ap, ◌∙◌, arith, le-ltb, lt-ltb}
 use Rattle.words.specs.Outcome.{Outcome, accepted, refuse}
 use Rattle.words.specs.declared.refusal.Refusal.{Refusal}
 use Rattle.words.specs.declared.refusal.Refusal.TheVariants.{SetFull}
@@ -25,10 +25,10 @@ module _ (x : Worker) (rs : List ReadEntry) (ws : List WriteEntry) (was : x.stag
       ap (λ l. accept (length ws) (at_stage x (open' rs l))) (place_replaces e 0 i ws h ∙ ap (λ n. set ws n e) z)
 
   pub write_full : (e : WriteEntry) → place (λ (w : WriteEntry). w.cell) e.cell 0 ws ≡ None → 16 ≤ length ws → write_by e.cell e.value x ≡ (refuse SetFull, x)
-  write_full e h many = writes e None (place_none (λ (w : WriteEntry). w.cell) e.cell 0 ws h) ∙ rw (lt_ltb 15 (length ws) (omega arith))
+  write_full e h many = writes e None (place_none (λ (w : WriteEntry). w.cell) e.cell 0 ws h) ∙ rw (lt-ltb 15 (length ws) (omega arith))
 
   pub write_more : (e : WriteEntry) → place (λ (w : WriteEntry). w.cell) e.cell 0 ws ≡ None → length ws < 16 → write_by e.cell e.value x ≡ (accepted (length ws + 1), at_stage x (open' rs (ws ++ (e ∷ []))))
-  write_more e h few = writes e None (place_none (λ (w : WriteEntry). w.cell) e.cell 0 ws h) ∙ rw (le_ltb 15 (length ws) (omega arith))
+  write_more e h few = writes e None (place_none (λ (w : WriteEntry). w.cell) e.cell 0 ws h) ∙ rw (le-ltb 15 (length ws) (omega arith))
 
   module _ (t : Table) (w c : ℕ) where
     abbrev fresh : Came Worker
@@ -48,7 +48,7 @@ module _ (x : Worker) (rs : List ReadEntry) (ws : List WriteEntry) (was : x.stag
 
 -- a new read, where the set has room
 pub read_found : (x : Worker) (rs : List ReadEntry) (ws : List WriteEntry) (c : ℕ) (o : Outcome Version) → length rs < 16 → (v : Version) → accepted v ≡ o → read_new c rs ws o x ≡ (accepted v.value, at_stage x (open' (rs ++ (record { cell = c; stamp = v.write; value = v.value } ∷ [])) ws))
-read_found x rs ws c o few v e = ap (λ o. read_new c rs ws o x) (sym e) ∙ rw (le_ltb 15 (length rs) (omega arith))
+read_found x rs ws c o few v e = ap (λ o. read_new c rs ws o x) (sym e) ∙ rw (le-ltb 15 (length rs) (omega arith))
 
 pub read_refused : (x : Worker) (rs : List ReadEntry) (ws : List WriteEntry) (c : ℕ) (o : Outcome Version) → length rs < 16 → (e : Refusal) → refuse e ≡ o → read_new c rs ws o x ≡ (refuse e, x)
-read_refused x rs ws c o few r e = ap (λ o. read_new c rs ws o x) (sym e) ∙ rw (le_ltb 15 (length rs) (omega arith))
+read_refused x rs ws c o few r e = ap (λ o. read_new c rs ws o x) (sym e) ∙ rw (le-ltb 15 (length rs) (omega arith))

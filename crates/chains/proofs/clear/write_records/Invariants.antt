@@ -3,5 +3,5 @@ use Rattle.chains.specs.Chain.{blank}
 use Rattle.chains.specs.Store.{cleared_record}
 use Rattle.chains.proofs.clear.write_records.Given as goal
 
-abbrev pub invariant_loop_at : goal.invariant_loop_at
-invariant_loop_at l = ((k : ℕ) → k < l.at → get_or l.records k blank ≡ cleared_record l.cells l.used k) × (drop l.used l.records ≡ drop l.used l.initial.records)
+abbrev pub invariant-loop-at : goal.invariant-loop-at
+invariant-loop-at l = ((k : ℕ) → k < l.at → get_or l.records k blank ≡ cleared_record l.cells l.used k) × (drop l.used l.records ≡ drop l.used l.initial.records)

@@ -3,8 +3,8 @@ use Rattle.tables.specs.Versions.{holds}
 use Rattle.chains.specs.Chain.{version_of, path, good}
 use Rattle.chains.proofs.walk.find.Given as goal
 
-abbrev pub invariant_loop_at : goal.invariant_loop_at
-invariant_loop_at l = (p : List ℕ) × (good l.records l.at ≡ true) × (path l.records l.initial.at ≡ p ++ path l.records l.at) × (holds l.stamp (map (version_of l.records) p) ≡ false)
+abbrev pub invariant-loop-at : goal.invariant-loop-at
+invariant-loop-at l = (p : List ℕ) × (good l.records l.at ≡ true) × (path l.records l.initial.at ≡ p ++ path l.records l.at) × (holds l.stamp (map (version_of l.records) p) ≡ false)
 
-abbrev pub decreases_loop_at : goal.decreases_loop_at
-decreases_loop_at l = length (path l.records l.at)
+abbrev pub decreases-loop-at : goal.decreases-loop-at
+decreases-loop-at l = length (path l.records l.at)

@@ -3,8 +3,8 @@ use Rattle.tables.specs.Table.{version_in}
 use Rattle.chains.specs.Chain.{path, good, along}
 use Rattle.chains.proofs.walk.version_at.Given as goal
 
-abbrev pub invariant_loop_at : goal.invariant_loop_at
-invariant_loop_at l = (good l.records l.at ≡ true) × (version_in (along l.records l.initial.at) l.initial.left ≡ version_in (along l.records l.at) l.left)
+abbrev pub invariant-loop-at : goal.invariant-loop-at
+invariant-loop-at l = (good l.records l.at ≡ true) × (version_in (along l.records l.initial.at) l.initial.left ≡ version_in (along l.records l.at) l.left)
 
-abbrev pub decreases_loop_at : goal.decreases_loop_at
-decreases_loop_at l = length (path l.records l.at)
+abbrev pub decreases-loop-at : goal.decreases-loop-at
+decreases-loop-at l = length (path l.records l.at)

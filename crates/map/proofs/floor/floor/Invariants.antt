@@ -3,5 +3,5 @@ use Rattle.map.specs.Plate.{last_of}
 use Rattle.map.proofs.Lowest.{lowest}
 use Rattle.map.proofs.floor.floor.Given as goal
 
-abbrev pub invariant_loop_i : goal.invariant_loop_i
-invariant_loop_i l = l.least ≡ lowest (last_of l.workers) l.initial.least l.i
+abbrev pub invariant-loop-i : goal.invariant-loop-i
+invariant-loop-i l = l.least ≡ lowest (last_of l.workers) l.initial.least l.i

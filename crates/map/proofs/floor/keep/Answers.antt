@@ -5,22 +5,22 @@ use Rattle.map.specs.Plate.{seated}
 use Rattle.map.proofs.Places.{seated_at}
 use Rattle.map.proofs.Lowest.{lowest, lowest_all, keep_look, keep_rest}
 use Rattle.map.proofs.floor.keep.Goals as goal
-use Rattle.map.proofs.floor.keep.Goals.{in_Some, in_default}
+use Rattle.map.proofs.floor.keep.Goals.{in-Some, in-default}
 
-pub loop_worker_preserved : goal.loop_worker_preserved
-loop_worker_preserved c =
+pub loop-worker-preserved : goal.loop-worker-preserved
+loop-worker-preserved c =
     let ws = c.args.workers.now in
-    let i = c.loop_worker.worker_index in
+    let i = c.loop-worker.worker-index in
     let b = c.args.floor in
-    let x = c.worker_item.result in
-    let here : shape x ≡ seated ws i = ap shape c.worker_item.is ∙ sym (seated_at ws i x c.loop_worker_test.true) in
-    elim c.match_look_floor.branch [
-      | in_Some w ↦ keep_look ws b i x c.loop_worker.least w.in_Some.look _ here c.loop_worker.invariant (sym w.in_Some.ensures) (search rules)
-      | in_default w ↦ keep_rest ws b i x c.loop_worker.least _ here c.loop_worker.invariant (search rules) (search rules)
+    let x = c.worker-item.result in
+    let here : shape x ≡ seated ws i = ap shape c.worker-item.is ∙ sym (seated_at ws i x c.loop-worker-test.true) in
+    elim c.match-look-floor.branch [
+      | in-Some w ↦ keep_look ws b i x c.loop-worker.least w.in-Some.look _ here c.loop-worker.invariant (sym w.in-Some.ensures) (search rules)
+      | in-default w ↦ keep_rest ws b i x c.loop-worker.least _ here c.loop-worker.invariant (search rules) (search rules)
     ]
 
 pub returns : goal.returns
 returns c =
     let ws = c.args.workers.now in
-    let all : c.loop_worker.worker_index ≡ length ws = let a = c.loop_worker_test.false in let b = c.loop_worker.auto.worker_index_end in omega arith in
-    c.loop_worker.invariant ∙ ap (lowest (λ w. look_floor (seated ws w).stage c.args.floor) c.args.floor) all ∙ lowest_all (λ w. look_floor (seated ws w).stage c.args.floor) c.args.floor (length ws) c.requires
+    let all : c.loop-worker.worker-index ≡ length ws = let a = c.loop-worker-test.false in let b = c.loop-worker.auto.worker-index-end in omega arith in
+    c.loop-worker.invariant ∙ ap (lowest (λ w. look_floor (seated ws w).stage c.args.floor) c.args.floor) all ∙ lowest_all (λ w. look_floor (seated ws w).stage c.args.floor) c.args.floor (length ws) c.requires

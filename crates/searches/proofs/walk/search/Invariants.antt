@@ -5,8 +5,8 @@ use Rattle.searches.specs.Judge.{looks_for}
 use Rattle.searches.proofs.walk.search.Given as goal
 
 -- what is left of the list gives what the whole gives; past the first position the cell is there
-abbrev pub invariant_loop_at : goal.invariant_loop_at
-invariant_loop_at g l =
+abbrev pub invariant-loop-at : goal.invariant-loop-at
+invariant-loop-at g l =
     let t = g.T.VersionTable.meaning l.table in
     (search (looks_for l.sought) t l.cell ≡ in_cell t l.cell (looks_for l.sought (drop l.at (reach (t.versions l.cell))))) ×
     (0 < l.at → l.cell < t.cells)

@@ -7,49 +7,49 @@ use Rattle.chains.specs.Store.{Store, store, moved}
 use Rattle.chains.proofs.Inserts.{no_place, same_unused, some_free, free_used, newer_used, InsertDone, inserts, insert_answers}
 use Rattle.chains.proofs.links.Links.insert.Goals as goal
 
-pub returns_in_default : goal.returns_in_default
-returns_in_default c =
+pub returns-in-default : goal.returns-in-default
+returns-in-default c =
     let s = store c.args.self.now in
-    let new = sym (c.if_is_some.ensures ∙ c.find.ensures.test) in
-    record { kept = c.requires.kept; answer = no_place s c.requires.kept c.args.cell c.args.stamp new c.in_default.is; after = refl; unused = same_unused s }
+    let new = sym (c.if-is-some.ensures ∙ c.find.ensures.test) in
+    record { kept = c.requires.kept; answer = no_place s c.requires.kept c.args.cell c.args.stamp new c.in-default.is; after = refl; unused = same_unused s }
 
-pub record_next_requires : goal.record_next_requires
-record_next_requires c =
+pub record-next-requires : goal.record-next-requires
+record-next-requires c =
     let s = store c.args.self.now in
-    omega (arith, free_used s c.requires.kept c.in_Some.free c.in_Some.is, c.requires.kept.lent)
+    omega (arith, free_used s c.requires.kept c.in-Some.free c.in-Some.is, c.requires.kept.lent)
 
-pub relink_requires : goal.relink_requires
-relink_requires c =
+pub relink-requires : goal.relink-requires
+relink-requires c =
     let s = store c.args.self.now in
     let k = c.requires.kept in
     record {
       headed = omega (arith, k.headed, c.requires.within);
-      lent = omega (arith, free_used s k c.in_Some.free c.in_Some.is, k.lent);
-      led = λ i e. omega (arith, newer_used s k c.args.cell c.requires.within c.args.stamp c.args.value (omega arith) c.in_Some.free c.in_Some.is c.place_place.result.newer c.place_place.result.older c.place_place.ensures i e, k.lent);
+      lent = omega (arith, free_used s k c.in-Some.free c.in-Some.is, k.lent);
+      led = λ i e. omega (arith, newer_used s k c.args.cell c.requires.within c.args.stamp c.args.value (omega arith) c.in-Some.free c.in-Some.is c.place-place.result.newer c.place-place.result.older c.place-place.ensures i e, k.lent);
     }
 
-pub overflow_sub_self : goal.overflow_sub_self
-overflow_sub_self c =
+pub overflow-sub-self : goal.overflow-sub-self
+overflow-sub-self c =
     let s = store c.args.self.now in
-    omega (arith, some_free s c.requires.kept c.in_Some.free c.in_Some.is, ap (λ (z : Store). z.count) c.relink.ensures)
+    omega (arith, some_free s c.requires.kept c.in-Some.free c.in-Some.is, ap (λ (z : Store). z.count) c.relink.ensures)
 
 pub returns : goal.returns
 returns c =
     let s = store c.args.self.now in
     let k = c.requires.kept in
     let cell = c.args.cell in
-    let f = c.in_Some.free in
-    let newer = c.place_place.result.newer in
-    let older = c.place_place.result.older in
-    let fresh = ap (λ (v : Version). moved s cell newer (Some f) f (record { version = v; next = older }) (next_of s.records f) (s.count - 1)) c.pending_version.ensures in
-    let fl = c.record_next.result.next in
+    let f = c.in-Some.free in
+    let newer = c.place-place.result.newer in
+    let older = c.place-place.result.older in
+    let fresh = ap (λ (v : Version). moved s cell newer (Some f) f (record { version = v; next = older }) (next_of s.records f) (s.count - 1)) c.pending-version.ensures in
+    let fl = c.record-next.result.next in
     let freed = ap (λ (z : Store). record { heads = z.heads; records = z.records; cells = z.cells; used = z.used; free = fl; count = z.count - 1 }) c.relink.ensures in
-    let next = ap (λ (l : Option ℕ). moved s cell newer (Some f) f (record { version = c.pending_version.result; next = older }) l (s.count - 1)) (ap (λ (z : Record). z.next) c.record_next.ensures) in
-    let done = subst⁻¹ (λ (z : Store). InsertDone s z cell c.args.stamp c.args.value) (freed ∙ next ∙ fresh) (inserts s k cell c.requires.within c.args.stamp c.args.value (omega arith) f c.in_Some.is newer older c.place_place.ensures) in
-    let new = sym (c.if_is_some.ensures ∙ c.find.ensures.test) in
+    let next = ap (λ (l : Option ℕ). moved s cell newer (Some f) f (record { version = c.pending-version.result; next = older }) l (s.count - 1)) (ap (λ (z : Record). z.next) c.record-next.ensures) in
+    let done = subst⁻¹ (λ (z : Store). InsertDone s z cell c.args.stamp c.args.value) (freed ∙ next ∙ fresh) (inserts s k cell c.requires.within c.args.stamp c.args.value (omega arith) f c.in-Some.is newer older c.place-place.ensures) in
+    let new = sym (c.if-is-some.ensures ∙ c.find.ensures.test) in
     record {
       kept = done.kept;
-      answer = insert_answers s k cell c.requires.within c.args.stamp c.args.value (omega arith) f c.in_Some.is newer older c.place_place.ensures new;
+      answer = insert_answers s k cell c.requires.within c.args.stamp c.args.value (omega arith) f c.in-Some.is newer older c.place-place.ensures new;
       after = done.inserted;
       unused = done.unused;
     }

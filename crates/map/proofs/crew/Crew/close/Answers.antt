@@ -3,8 +3,8 @@ use Rattle.words.specs.Outcome.{told}
 use Rattle.map.proofs.Families.{close_performed}
 use Rattle.map.proofs.crew.Crew.close.Goals as goal
 
-pub returns_in_Ok : goal.returns_in_Ok
-returns_in_Ok c t =
+pub returns-in-Ok : goal.returns-in-Ok
+returns-in-Ok c t =
     let i = c.args.self.now.inner in
-    let e = c.in_Ok.ensures in
+    let e = c.in-Ok.ensures in
     close_performed t t i c.args.worker c.worker.result.now c.glance.new.self e.0 (search rules) c.worker.ensures.value (told c.glance.result) _ (λ v. refl) c.glance.ensures

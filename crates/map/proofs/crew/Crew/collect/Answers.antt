@@ -1,12 +1,12 @@
 use Rattle.map.proofs.Families.{collect_found, collect_none}
 use Rattle.map.proofs.crew.Crew.collect.Goals as goal
 
-pub returns_in_Ok : goal.returns_in_Ok
-returns_in_Ok g c =
+pub returns-in-Ok : goal.returns-in-Ok
+returns-in-Ok g c =
     let t = g.T.VersionTable.meaning c.args.table.now in
-    collect_found t (g.T.VersionTable.meaning c.cut.new.self) c.args.self.now.inner c.args.cell c.keep_line_line.result c.in_Ok.version c.cut.result (c.keep_line_line.ensures t) c.in_Ok.ensures c.cut.ensures.answer c.cut.ensures.after
+    collect_found t (g.T.VersionTable.meaning c.cut.new.self) c.args.self.now.inner c.args.cell c.keep-line-line.result c.in-Ok.version c.cut.result (c.keep-line-line.ensures t) c.in-Ok.ensures c.cut.ensures.answer c.cut.ensures.after
 
-pub returns_in_Err : goal.returns_in_Err
-returns_in_Err g c =
+pub returns-in-Err : goal.returns-in-Err
+returns-in-Err g c =
     let t = g.T.VersionTable.meaning c.args.table.now in
-    collect_none t c.args.self.now.inner c.args.cell c.keep_line_line.result c.in_Err.refusal (c.keep_line_line.ensures t) c.in_Err.ensures
+    collect_none t c.args.self.now.inner c.args.cell c.keep-line-line.result c.in-Err.refusal (c.keep-line-line.ensures t) c.in-Err.ensures

@@ -3,5 +3,5 @@ use Rattle.rules.specs.Model.{new_worker}
 use Rattle.workers.specs.Shape.{shape}
 use Rattle.map.proofs.crew.Crew.new.Given as goal
 
-abbrev pub invariant_loop_n : goal.invariant_loop_n
-invariant_loop_n l = (map shape (vec_items l.workers) ≡ replicate l.-n new_worker) × (vec_len l.workers ≡ l.-n)
+abbrev pub invariant-loop-n : goal.invariant-loop-n
+invariant-loop-n l = (map shape (vec_items l.workers) ≡ replicate l.-n new_worker) × (vec_len l.workers ≡ l.-n)

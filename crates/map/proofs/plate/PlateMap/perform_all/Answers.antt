@@ -6,23 +6,23 @@ use Rattle.map.specs.Plate.{plate}
 use Rattle.map.proofs.Events.{events_push, events_all}
 use Rattle.map.proofs.plate.PlateMap.perform_all.Goals as goal
 
-pub loop_call_preserved : goal.loop_call_preserved
-loop_call_preserved g c =
-    let i = c.loop_call.call_index in
+pub loop-call-preserved : goal.loop-call-preserved
+loop-call-preserved g c =
+    let i = c.loop-call.call-index in
     let cs = c.args.calls.now in (
       search rules,
       search rules,
       λ workers cells es run.
-          subst (λ (events : List Event). Run workers cells events (g.T.VersionTable.meaning c.perform_answer.new.self.table.now) (plate (g.T.VersionTable.meaning c.perform_answer.new.self.table.now) c.perform_answer.new.self.crew.inner))
-          (sym (events_push cs (vec_items c.loop_call.answers) (vec_items c.push_reserved.new.self) i (Begin 0 0) c.perform_answer.result es (search rules) (search rules) c.loop_call_test.true))
-          (c.perform_answer.ensures.longer workers cells _ (c.loop_call.invariant.2 workers cells es run)),
+          subst (λ (events : List Event). Run workers cells events (g.T.VersionTable.meaning c.perform-answer.new.self.table.now) (plate (g.T.VersionTable.meaning c.perform-answer.new.self.table.now) c.perform-answer.new.self.crew.inner))
+          (sym (events_push cs (vec_items c.loop-call.answers) (vec_items c.push-reserved.new.self) i (Begin 0 0) c.perform-answer.result es (search rules) (search rules) c.loop-call-test.true))
+          (c.perform-answer.ensures.longer workers cells _ (c.loop-call.invariant.2 workers cells es run)),
     )
 
 pub returns : goal.returns
 returns g c = (
   search rules,
   λ workers cells es run.
-      subst (λ (events : List Event). Run workers cells events (g.T.VersionTable.meaning c.loop_call.self.table.now) (plate (g.T.VersionTable.meaning c.loop_call.self.table.now) c.loop_call.self.crew.inner))
-      (events_all c.args.calls.now (vec_items c.loop_call.answers) c.loop_call.call_index es c.loop_call_test.false)
-      (c.loop_call.invariant.2 workers cells es run),
+      subst (λ (events : List Event). Run workers cells events (g.T.VersionTable.meaning c.loop-call.self.table.now) (plate (g.T.VersionTable.meaning c.loop-call.self.table.now) c.loop-call.self.crew.inner))
+      (events_all c.args.calls.now (vec_items c.loop-call.answers) c.loop-call.call-index es c.loop-call-test.false)
+      (c.loop-call.invariant.2 workers cells es run),
 )

@@ -6,8 +6,8 @@ use Rattle.map.specs.Events.{with_events}
 use Rattle.map.proofs.plate.PlateMap.perform_all.Given as goal
 
 -- one answer for each call so far, and the run has gone on by their events
-abbrev pub invariant_loop_call : goal.invariant_loop_call
-invariant_loop_call g l =
-    (vec_len l.answers ≡ l.call_index) × (length l.calls ≤ vec_capacity l.answers) ×
+abbrev pub invariant-loop-call : goal.invariant-loop-call
+invariant-loop-call g l =
+    (vec_len l.answers ≡ l.call-index) × (length l.calls ≤ vec_capacity l.answers) ×
     ((workers cells : ℕ) (es : List Event) → Run workers cells es (g.T.VersionTable.meaning l.initial.self.table.now) (plate (g.T.VersionTable.meaning l.initial.self.table.now) l.initial.self.crew.inner)
-    → Run workers cells (with_events (take l.call_index l.calls) (vec_items l.answers) es) (g.T.VersionTable.meaning l.self.table.now) (plate (g.T.VersionTable.meaning l.self.table.now) l.self.crew.inner))
+    → Run workers cells (with_events (take l.call-index l.calls) (vec_items l.answers) es) (g.T.VersionTable.meaning l.self.table.now) (plate (g.T.VersionTable.meaning l.self.table.now) l.self.crew.inner))

@@ -9,24 +9,24 @@ use Rattle.rows.specs.Search.{First}
 use Rattle.rows.proofs.Found.{found_pending, found_changed}
 use Rattle.rows.proofs.row.Row.mark.Goals as goal
 
-pub returns_in_default : goal.returns_in_default
-returns_in_default c =
+pub returns-in-default : goal.returns-in-default
+returns-in-default c =
     let vs = row_list c.args.self.now in
-    let none = none_pending c.args.stamp vs (sym (ap (holds c.args.stamp) c.list.ensures) ∙ sym c.in_default.ensures.test) in
+    let none = none_pending c.args.stamp vs (sym (ap (holds c.args.stamp) c.list.ensures) ∙ sym c.in-default.ensures.test) in
     record { answer = rw none; after = refl }
 
-pub returns_then_not_is_pending : goal.returns_then_not_is_pending
-returns_then_not_is_pending c =
-    let first = subst (λ (xs : List Version). First c.args.stamp xs c.in_Some.at) c.list.ensures c.in_Some.ensures.found in
-    let over = found_pending first ∙ ap (λ (xs : List Version). pending (get_or xs c.in_Some.at absent).status) (sym c.list_2.ensures) ∙ sym c.if_not_is_pending.ensures in
+pub returns-then-not-is-pending : goal.returns-then-not-is-pending
+returns-then-not-is-pending c =
+    let first = subst (λ (xs : List Version). First c.args.stamp xs c.in-Some.at) c.list.ensures c.in-Some.ensures.found in
+    let over = found_pending first ∙ ap (λ (xs : List Version). pending (get_or xs c.in-Some.at absent).status) (sym c.list-2.ensures) ∙ sym c.if-not-is-pending.ensures in
     record { answer = rw over; after = refl }
 
 pub returns : goal.returns
 returns c =
     let vs = row_list c.args.self.now in
-    let first = subst (λ (xs : List Version). First c.args.stamp xs c.in_Some.at) c.list.ensures c.in_Some.ensures.found in
-    let open' = found_pending first ∙ ap (λ (xs : List Version). pending (get_or xs c.in_Some.at absent).status) (sym c.list_2.ensures) ∙ sym c.if_not_is_pending.ensures in
+    let first = subst (λ (xs : List Version). First c.args.stamp xs c.in-Some.at) c.list.ensures c.in-Some.ensures.found in
+    let open' = found_pending first ∙ ap (λ (xs : List Version). pending (get_or xs c.in-Some.at absent).status) (sym c.list-2.ensures) ∙ sym c.if-not-is-pending.ensures in
     record {
       answer = rw open';
-      after = c.replace.ensures ∙ ap (set vs c.in_Some.at) (cc) ∙ sym (found_changed first (marked c.args.ending));
+      after = c.replace.ensures ∙ ap (set vs c.in-Some.at) (cc) ∙ sym (found_changed first (marked c.args.ending));
     }

@@ -1,15 +1,15 @@
 use Rattle.std.proofs.Common.{leb, length, ap, ◌∙◌, arith}
-use Rattle.std.proofs.lemmas.List.{length_set}
+use Rattle.std.proofs.lemmas.List.{length-set}
 use Rattle.tables.specs.Versions.{sinks, top}
 use Rattle.rows.specs.Row.{row_list}
 use Rattle.rows.proofs.Fronts.{front_set, ordered_set}
 use Rattle.rows.proofs.row.Row.replace.Goals as goal
 
-pub invariant_of_self : goal.invariant_of_self
-invariant_of_self c =
+pub invariant-of-self : goal.invariant-of-self
+invariant-of-self c =
     let r = c.args.self.now in
     let e = front_set r.len r.versions c.args.at c.args.version c.requires.within (omega arith) in
-    (simp length_set r.full, (r.short, (ap sinks e ∙ ordered_set leb top (row_list r) c.args.at c.args.version c.requires.same ∙ r.sinking, tt)))
+    (simp length-set r.full, (r.short, (ap sinks e ∙ ordered_set leb top (row_list r) c.args.at c.args.version c.requires.same ∙ r.sinking, tt)))
 
 pub returns : goal.returns
 returns c =

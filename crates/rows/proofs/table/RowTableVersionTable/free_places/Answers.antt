@@ -6,4 +6,4 @@ use Rattle.rows.proofs.table.RowTableVersionTable.free_places.Goals as goal
 
 pub returns : goal.returns
 returns c =
-    row_answers c.args.self.now.rows c.args.cell c.index_self_cell.result (omega arith) c.if_cell_ge_CELLS.false (λ vs. accepted (held (8 - length vs))) _ (ap accepted (fits _ _ (omega arith) (ap (λ (n : ℕ). 8 - n) c.len.ensures)))
+    row_answers c.args.self.now.rows c.args.cell c.index-self-cell.result (omega arith) c.if-cell-ge-CELLS.false (λ vs. accepted (held (8 - length vs))) _ (ap accepted (fits _ _ (omega arith) (ap (λ (n : ℕ). 8 - n) c.len.ensures)))

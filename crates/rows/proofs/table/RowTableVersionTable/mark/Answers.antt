@@ -7,8 +7,8 @@ use Rattle.rows.proofs.table.RowTableVersionTable.mark.Goals as goal
 pub returns : goal.returns
 returns c =
     let rows = c.args.self.now.rows in
-    let row = c.index_self_cell.result in
+    let row = c.index-self-cell.result in
     record {
-      answer = row_answers rows c.args.cell row (omega arith) c.if_cell_ge_CELLS.false (λ vs. mark_in vs c.args.stamp) _ c.mark.ensures.answer;
-      after = row_alters rows c.args.cell row (omega arith) c.if_cell_ge_CELLS.false c.args.stamp (marked c.args.ending) c.mark.new.self c.mark.result c.mark.ensures.after;
+      answer = row_answers rows c.args.cell row (omega arith) c.if-cell-ge-CELLS.false (λ vs. mark_in vs c.args.stamp) _ c.mark.ensures.answer;
+      after = row_alters rows c.args.cell row (omega arith) c.if-cell-ge-CELLS.false c.args.stamp (marked c.args.ending) c.mark.new.self c.mark.result c.mark.ensures.after;
     }

@@ -5,4 +5,4 @@ use Rattle.rows.proofs.table.RowTableVersionTable.version.Goals as goal
 
 pub returns : goal.returns
 returns c =
-    row_answers c.args.self.now.rows c.args.cell c.index_self_cell.result (omega arith) c.if_cell_ge_CELLS.false (λ vs. version_in vs c.args.at) _ c.version.ensures
+    row_answers c.args.self.now.rows c.args.cell c.index-self-cell.result (omega arith) c.if-cell-ge-CELLS.false (λ vs. version_in vs c.args.at) _ c.version.ensures

@@ -8,39 +8,39 @@ use Rattle.spare.proofs.Answered.{insert_below, insert_spare, insert_taken}
 use Rattle.spare.proofs.Layered.{layered_insert, spare_insert}
 use Rattle.spare.proofs.layer.SpareLayerVersionTable.insert.Goals as goal
 
-pub returns_then_spare_stamp : goal.returns_then_spare_stamp
-returns_then_spare_stamp g c =
+pub returns-then-spare-stamp : goal.returns-then-spare-stamp
+returns-then-spare-stamp g c =
     let self = c.args.self.now in
     let t = g.T.VersionTable.meaning self.below.now in
     let spares = spare_at self.spares.places in
-    let v = c.in_Some.spare in
-    let is = is_stamped c.args.stamp v (spares c.args.cell) c.in_Some.ensures c.if_spare_stamp.true in
+    let v = c.in-Some.spare in
+    let is = is_stamped c.args.stamp v (spares c.args.cell) c.in-Some.ensures c.if-spare-stamp.true in
     record {
       answer = insert_taken spares t c.args.cell c.args.stamp (omega (arith, c.cells.ensures)) v is;
       after = refl {a = layered spares t};
     }
 
-pub returns_else_spare_stamp : goal.returns_else_spare_stamp
-returns_else_spare_stamp g c =
+pub returns-else-spare-stamp : goal.returns-else-spare-stamp
+returns-else-spare-stamp g c =
     let self = c.args.self.now in
     let t = g.T.VersionTable.meaning self.below.now in
     let u = g.T.VersionTable.meaning c.insert.new.self in
     let spares = spare_at self.spares.places in
-    let v = c.in_Some.spare in
-    let other = not_stamped c.args.stamp v (spares c.args.cell) c.in_Some.ensures c.if_spare_stamp.false in
+    let v = c.in-Some.spare in
+    let other = not_stamped c.args.stamp v (spares c.args.cell) c.in-Some.ensures c.if-spare-stamp.false in
     record {
-      answer = insert_below spares t c.args.cell c.args.stamp other v c.in_Some.ensures _ c.insert.ensures.answer;
+      answer = insert_below spares t c.args.cell c.args.stamp other v c.in-Some.ensures _ c.insert.ensures.answer;
       after = layered_insert spares t u c.args.cell c.args.stamp other c.insert.result c.args.value c.insert.ensures.after;
     }
 
-pub returns_else_has_stamp : goal.returns_else_has_stamp
-returns_else_has_stamp g c =
+pub returns-else-has-stamp : goal.returns-else-has-stamp
+returns-else-has-stamp g c =
     let self = c.args.self.now in
     let t = g.T.VersionTable.meaning self.below.now in
     let spares = spare_at self.spares.places in
     let spares' = spare_at c.put.new.self.places in
-    let done = spare_insert spares spares' t c.args.cell c.args.stamp c.args.value c.in_None.ensures (c.put.ensures ∙ ap (λ (v : Version). put spares c.args.cell (Some v)) c.pending.ensures) in
+    let done = spare_insert spares spares' t c.args.cell c.args.stamp c.args.value c.in-None.ensures (c.put.ensures ∙ ap (λ (v : Version). put spares c.args.cell (Some v)) c.pending.ensures) in
     record {
-      answer = insert_spare spares t c.args.cell c.args.stamp (omega (arith, c.cells.ensures)) c.in_None.ensures c.if_has_stamp.ensures.answer;
-      after = subst⁻¹ (λ (u : Table). Inserted (layered spares t) (layered spares' u) c.args.cell c.args.stamp c.args.value) c.has_stamp.ensures.after done;
+      answer = insert_spare spares t c.args.cell c.args.stamp (omega (arith, c.cells.ensures)) c.in-None.ensures c.if-has-stamp.ensures.answer;
+      after = subst⁻¹ (λ (u : Table). Inserted (layered spares t) (layered spares' u) c.args.cell c.args.stamp c.args.value) c.has-stamp.ensures.after done;
     }
