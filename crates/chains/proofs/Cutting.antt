@@ -10,7 +10,7 @@ use Rattle.tables.proofs.Cuts.{cut_counts}
 use Rattle.tables.proofs.Lengths.{put_same, put_put}
 use Rattle.chains.specs.declared.record.Record.{Record}
 use Rattle.chains.specs.Chain.{blank, next_of, version_of, path, good, along, last_of}
-use Rattle.chains.specs.Store.{Store, link, path_of, list, chained, moved, Unused}
+use Rattle.chains.specs.Store.{Store, path_of, list, chained, moved, Unused}
 use Rattle.chains.specs.Kept.{count, Kept}
 use Rattle.chains.proofs.Sums.{count_append, count_first, sum_two}
 use Rattle.chains.proofs.Paths.{Linked, linked, linked_ends}

@@ -6,7 +6,7 @@ use Rattle.tables.specs.Versions.{sinks}
 use Rattle.tables.specs.Table.{put}
 use Rattle.chains.specs.declared.record.Record.{Record}
 use Rattle.chains.specs.Chain.{blank, next_of, version_of, along, last_of}
-use Rattle.chains.specs.Store.{Store, link, path_of, list, records_to, moved}
+use Rattle.chains.specs.Store.{Store, link, path_of, records_to, moved}
 use Rattle.chains.specs.Kept.{count, Kept}
 use Rattle.chains.proofs.Sums.{count_append, count_first}
 use Rattle.chains.proofs.Paths.{Linked}

@@ -1,5 +1,5 @@
 -- The first free record, written and put into a cell's chain behind `newer`.
-use Rattle.std.proofs.Common.{◌≡◌, ℕ, ◌+◌, ◌-◌, ◌<◌, ◌≤◌, true, List, ◌∷◌, ◌++◌, map, length, get_or, set, Some, None, Option, sym, refl, ap, ◌∙◌, subst, ap₂, arith}
+use Rattle.std.proofs.Common.{◌≡◌, ℕ, ◌-◌, ◌<◌, ◌≤◌, true, List, ◌∷◌, ◌++◌, map, length, get_or, set, Some, None, Option, sym, refl, ap, ◌∙◌, subst, ap₂, arith}
 use Rattle.std.proofs.lemmas.List.{length-set, map-append}
 use Rattle.std.proofs.lemmas.Bool.{le-ltb, eq-eqb}
 use Rattle.words.specs.declared.version.Version.{Version}
@@ -7,11 +7,11 @@ use Rattle.tables.specs.Versions.{sinks}
 use Rattle.tables.specs.Table.{put}
 use Rattle.chains.specs.declared.record.Record.{Record}
 use Rattle.chains.specs.Chain.{blank, next_of, version_of, path, good, along, last_of}
-use Rattle.chains.specs.Store.{Store, link, path_of, list, records_to, moved}
+use Rattle.chains.specs.Store.{Store, link, path_of, records_to, moved}
 use Rattle.chains.specs.Kept.{count, Kept}
 use Rattle.chains.proofs.Sums.{count_append, count_first}
 use Rattle.chains.proofs.Paths.{Linked, linked, Stepped, stepped}
-use Rattle.chains.proofs.Keeps.{Pathed, within, stands_once, nowhere_else}
+use Rattle.chains.proofs.Keeps.{Pathed, stands_once, nowhere_else}
 use Rattle.chains.proofs.Moves.{heads_length, to_length, newer_tail, newer_free, framed, seen, rewritten, after_own, after_free, after_other, moves, other_versions}
 use Rattle.chains.proofs.Changes.{Changed, still_sinking, lists_by}
 

@@ -2,6 +2,8 @@
 //
 // Free records are shared by all cells. A record stands in one chain at a time, that of a cell or
 // that of the free records; every call only relinks records.
+#![tactic(auto)]
+
 mod ask;
 mod calls;
 mod change;

@@ -2,6 +2,8 @@
 //
 // specs/ says it: the plain array, what events tell of passes and looks, runs, the law. Nothing here
 // performs a call.
+#![tactic(auto)]
+
 mod standing;
 
 pub use standing::law_stands;

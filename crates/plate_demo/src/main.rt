@@ -1,5 +1,7 @@
 // A small scan of a plate on each version table, call by call: what was called, what was answered,
 // and what the cell's list then holds.
+#![tactic(auto)]
+
 mod chapter;
 mod report;
 mod scan;

@@ -3,7 +3,7 @@ use Rattle.std.proofs.Common.{◌≡◌, ℕ, ◌-◌, ◌<◌, ◌≤◌, List,
 use Rattle.std.proofs.lemmas.Bool.{cases_eq}
 use Rattle.words.specs.declared.version.Version.{Version}
 use Rattle.words.specs.Version.{new_version}
-use Rattle.tables.specs.Versions.{with_version, at_stamp, kept, cut_count}
+use Rattle.tables.specs.Versions.{with_version, at_stamp, kept}
 use Rattle.tables.specs.Table.{Only, Inserted, Altered, Cut, put}
 use Rattle.tables.proofs.Cuts.{cut_counts}
 use Rattle.tables.proofs.Lengths.{length_with, length_at_stamp, put_here, put_other}

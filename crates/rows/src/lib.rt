@@ -2,6 +2,8 @@
 //
 // A row is proved by itself against the meaning of one cell's list; the table then only chooses
 // the row that a call names.
+#![tactic(auto)]
+
 mod change;
 mod row;
 mod search;

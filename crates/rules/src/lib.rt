@@ -2,6 +2,8 @@
 // function from a model and a call to the answer and the next model.
 //
 // Nothing here performs a call.
+#![tactic(auto)]
+
 mod call;
 mod entry;
 mod standing;

@@ -1,4 +1,6 @@
 // Searches: along the list of a cell, on any version table, and in a set of entries that name cells.
+#![tactic(auto)]
+
 mod entries;
 mod sought;
 mod walk;

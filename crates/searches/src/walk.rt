@@ -11,7 +11,7 @@ use words::{Refusal, Version};
 // The version of a cell that is sought, newest to oldest: the first that counts. A pending version that
 // is met is WAIT; where none counts, NO VERSION.
 pub fn search<T: VersionTable>(table: &T, cell: usize, sought: Sought) -> Result<Version, Refusal>
-    ensures { told result ≡ search (looks_for sought) (meaning table.now) cell }
+    ensures { told result ≡ search (looks_for sought) (T.meaning table.now) cell }
 {
     for at in 0..usize::MAX {
         let version = match table.version(cell, at) {

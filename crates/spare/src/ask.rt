@@ -14,8 +14,8 @@ use words::{Refusal, Version};
 // read stamp is below 0. This is exact on every list, and a walk would not be: nothing bounds the
 // length of a list, and positions end at 2^64 - 1.
 pub(crate) fn has_stamp<T: VersionTable>(table: &mut T, cell: usize, stamp: u64) -> bool
-    ensures answer { result ≡ (nat_lt cell (meaning table.old).cells && holds stamp ((meaning table.old).versions cell)) }
-    ensures after { meaning table.new ≡ meaning table.old }
+    ensures answer { result ≡ (nat_lt cell (T.meaning table.old).cells && holds stamp ((T.meaning table.old).versions cell)) }
+    ensures after { T.meaning table.new ≡ T.meaning table.old }
 {
     table.raise(cell, stamp, 0).is_ok()
 }
@@ -30,7 +30,7 @@ pub(crate) fn version_beside<T: VersionTable>(
     cell: usize,
     at: usize,
 ) -> Result<Version, Refusal>
-    ensures { told result ≡ in_cell (meaning table.now) cell (version_in (with_version spare ((meaning table.now).versions cell)) at) }
+    ensures { told result ≡ in_cell (T.meaning table.now) cell (version_in (with_version spare ((T.meaning table.now).versions cell)) at) }
 {
     if cell >= table.cells() {
         return Err(Refusal::NoCell);

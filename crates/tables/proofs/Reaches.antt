@@ -3,14 +3,14 @@ use Rattle.std.proofs.Common.{◌≡◌, ℕ, true, false, List, Ok, Err, Result
 use mathlib.Core.Path.{subst⁻¹}
 use Rattle.std.proofs.lemmas.Bool.{cases_eq}
 use Rattle.std.proofs.lemmas.Bool.Decides.{nat_tests}
-use Rattle.words.specs.Outcome.{Outcome, accepted, refused, refuse, told}
+use Rattle.words.specs.Outcome.{Outcome, accepted, refused, told}
 use Rattle.words.specs.declared.refusal.Refusal.{Refusal}
 use Rattle.words.specs.declared.version.Version.{Version}
 use Rattle.tables.specs.declared.call.TableCall.{TableCall}
 use Rattle.tables.specs.declared.call.TableCall.TheVariants.{Clear, Cells, FreePlaces, Length, Version as VersionAt, Insert, Raise, Mark, Cut as CutAt}
 use Rattle.tables.specs.declared.call.Answer.{Answer}
 use Rattle.words.specs.Version.{new_version}
-use Rattle.tables.specs.Versions.{holds, falls, at_stamp, raised, marked}
+use Rattle.tables.specs.Versions.{holds, falls, raised, marked}
 use Rattle.tables.specs.Table.{Table, Cleared, Only, Inserted, Altered, Cut, put, insert_answer, raise_answer, mark_answer, cut_answer}
 use Rattle.tables.specs.Calls.{call_answer, Upon, Step, Reached, start, next, Strict}
 use Rattle.tables.proofs.Order.{falls_with, falls_at_stamp}

@@ -50,9 +50,9 @@ pub enum Answer {
 
 // Performs one call on a table.
 pub fn perform<T: VersionTable>(table: &mut T, call: TableCall) -> Result<Answer, Refusal>
-    ensures answer { told result ≡ call_answer (meaning table.old) call }
-    ensures after { Step (meaning table.old) call (meaning table.new) }
-    ensures strict { Reached (meaning table.old) → Strict (meaning table.new) }
+    ensures answer { told result ≡ call_answer (T.meaning table.old) call }
+    ensures after { Step (T.meaning table.old) call (T.meaning table.new) }
+    ensures strict { Reached (T.meaning table.old) → Strict (T.meaning table.new) }
 {
     match call {
         TableCall::Clear => Ok(Answer::Number(table.clear())),

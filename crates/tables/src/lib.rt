@@ -2,6 +2,8 @@
 //
 // A table keeps, for each of its cells, the versions of that cell, newest first. Everything
 // above is generic over the trait and is proved once, against what the trait says a table means.
+#![tactic(auto)]
+
 mod call;
 mod cut;
 mod table;

@@ -2,6 +2,8 @@
 // reasons for which a call is turned down.
 //
 // Nothing here knows of tables, workers or passes.
+#![tactic(auto)]
+
 mod refusal;
 mod status;
 mod version;

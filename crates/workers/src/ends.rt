@@ -22,7 +22,7 @@ pub enum End {
 // Marks the version of each write. In a run each is there and pending; on other tables a mark that is
 // refused leaves its list.
 fn settle<T: VersionTable>(table: &mut T, writes: &[WriteEntry], stamp: u64, ending: Ending)
-    ensures { Steps (meaning table.old) (marks ending stamp writes.now) (meaning table.new) }
+    ensures { Steps (T.meaning table.old) (marks ending stamp writes.now) (T.meaning table.new) }
 {
     for entry in writes {
         let _ = table.mark(entry.cell as usize, stamp, ending);
@@ -32,8 +32,8 @@ fn settle<T: VersionTable>(table: &mut T, writes: &[WriteEntry], stamp: u64, end
 impl Worker {
     fn commit<T: VersionTable>(&mut self, table: &mut T, seat: Seat) -> u64
         requires { self.old.stage ≡ Sealed (2 * (vec_len self.old.writes + vec_len self.old.reads)) }
-        ensures after { (accepted result, (shape self.new, (meaning table.new).versions)) ≡ commit_by (meaning table.old) seat.number (shape self.old) }
-        ensures beneath { Steps (meaning table.old) (commit_calls seat.number (shape self.old)) (meaning table.new) }
+        ensures after { (accepted result, (shape self.new, (T.meaning table.new).versions)) ≡ commit_by (T.meaning table.old) seat.number (shape self.old) }
+        ensures beneath { Steps (T.meaning table.old) (commit_calls seat.number (shape self.old)) (T.meaning table.new) }
     {
         let stamp = self.stamp(seat);
         settle(table, self.writes.as_slice(), stamp, Ending::Commit);
@@ -44,8 +44,8 @@ impl Worker {
 
     fn abort<T: VersionTable>(&mut self, table: &mut T, seat: Seat, k: usize) -> u64
         requires { self.old.stage ≡ Sealed k }
-        ensures after { (accepted result, (shape self.new, (meaning table.new).versions)) ≡ abort_by (meaning table.old) seat.number (shape self.old) }
-        ensures beneath { Steps (meaning table.old) (abort_calls seat.number (shape self.old)) (meaning table.new) }
+        ensures after { (accepted result, (shape self.new, (T.meaning table.new).versions)) ≡ abort_by (T.meaning table.old) seat.number (shape self.old) }
+        ensures beneath { Steps (T.meaning table.old) (abort_calls seat.number (shape self.old)) (T.meaning table.new) }
     {
         let installed = k.min(self.writes.len());
         let stamp = self.stamp(seat);
@@ -62,8 +62,8 @@ impl Worker {
         seat: Seat,
         call: End,
     ) -> Result<u64, Refusal>
-        ensures after { (told result, (shape self.new, (meaning table.new).versions)) ≡ end_by call (meaning table.old) seat.number (shape self.old) }
-        ensures beneath { StepsUpon (meaning table.old) (told result) (end_calls call seat.number (shape self.old)) (meaning table.new) }
+        ensures after { (told result, (shape self.new, (T.meaning table.new).versions)) ≡ end_by call (T.meaning table.old) seat.number (shape self.old) }
+        ensures beneath { StepsUpon (T.meaning table.old) (told result) (end_calls call seat.number (shape self.old)) (T.meaning table.new) }
     {
         let steps = 2 * (self.writes.len() + self.reads.len());
         match (self.stage, call) {

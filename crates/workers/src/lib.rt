@@ -2,6 +2,8 @@
 // and to the table.
 //
 // A call is told the worker's seat, which is its number. Nothing here knows of other workers.
+#![tactic(auto)]
+
 mod clock;
 mod edit;
 mod ends;

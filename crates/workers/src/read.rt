@@ -30,7 +30,7 @@ impl Worker {
         cell: u64,
     ) -> Result<u64, Refusal>
         requires { self.old.stage ≡ Open }
-        ensures { (told result, shape self.new) ≡ read_new cell self.old.reads.items self.old.writes.items (search (visible (pass_stamp (shape self.old) seat.number)) (meaning table.now) cell) (shape self.old) }
+        ensures { (told result, shape self.new) ≡ read_new cell self.old.reads.items self.old.writes.items (search (visible (pass_stamp (shape self.old) seat.number)) (T.meaning table.now) cell) (shape self.old) }
     {
         if self.reads.len() >= 16 {
             return Err(Refusal::SetFull);
@@ -56,7 +56,7 @@ impl Worker {
         seat: Seat,
         cell: u64,
     ) -> Result<u64, Refusal>
-        ensures { (told result, shape self.new) ≡ read_by (meaning table.now) seat.number cell (shape self.old) }
+        ensures { (told result, shape self.new) ≡ read_by (T.meaning table.now) seat.number cell (shape self.old) }
     {
         match self.stage {
             Stage::Open => {

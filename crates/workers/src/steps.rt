@@ -51,8 +51,8 @@ impl Worker {
     ) -> Result<u64, Refusal>
         requires stage { self.old.stage ≡ Sealed k }
         requires turn { k < vec_len self.old.writes }
-        ensures after { (told result, (shape self.new, (meaning table.new).versions)) ≡ install_by (meaning table.old) seat.number (shape self.old) }
-        ensures beneath { StepsUpon (meaning table.old) (told result) (step_calls seat.number (shape self.old)) (meaning table.new) }
+        ensures after { (told result, (shape self.new, (T.meaning table.new).versions)) ≡ install_by (T.meaning table.old) seat.number (shape self.old) }
+        ensures beneath { StepsUpon (T.meaning table.old) (told result) (step_calls seat.number (shape self.old)) (T.meaning table.new) }
     {
         let entry = self.writes[k];
         match table.insert(entry.cell as usize, self.stamp(seat), entry.value) {
@@ -69,8 +69,8 @@ impl Worker {
     ) -> Result<u64, Refusal>
         requires stage { self.old.stage ≡ Sealed k }
         requires turn { (vec_len self.old.writes ≤ k) × (k < vec_len self.old.writes + vec_len self.old.reads) }
-        ensures after { (told result, (shape self.new, (meaning table.new).versions)) ≡ stamp_by (meaning table.old) seat.number (shape self.old) }
-        ensures beneath { StepsUpon (meaning table.old) (told result) (step_calls seat.number (shape self.old)) (meaning table.new) }
+        ensures after { (told result, (shape self.new, (T.meaning table.new).versions)) ≡ stamp_by (T.meaning table.old) seat.number (shape self.old) }
+        ensures beneath { StepsUpon (T.meaning table.old) (told result) (step_calls seat.number (shape self.old)) (T.meaning table.new) }
     {
         let entry = self.reads[k - self.writes.len()];
         match table.raise(entry.cell as usize, entry.stamp, self.stamp(seat)) {
@@ -87,7 +87,7 @@ impl Worker {
     ) -> Result<u64, Refusal>
         requires stage { self.old.stage ≡ Sealed k }
         requires turn { (vec_len self.old.writes + vec_len self.old.reads ≤ k) × (k < vec_len self.old.writes + 2 * vec_len self.old.reads) }
-        ensures after { (told result, shape self.new) ≡ check_by (meaning table.now) seat.number (shape self.old) }
+        ensures after { (told result, shape self.new) ≡ check_by (T.meaning table.now) seat.number (shape self.old) }
     {
         let entry = self.reads[k - (self.writes.len() + self.reads.len())];
         match search(
@@ -114,7 +114,7 @@ impl Worker {
     ) -> Result<u64, Refusal>
         requires stage { self.old.stage ≡ Sealed k }
         requires turn { (vec_len self.old.writes + 2 * vec_len self.old.reads ≤ k) × (k < 2 * (vec_len self.old.writes + vec_len self.old.reads)) }
-        ensures after { (told result, shape self.new) ≡ check_by (meaning table.now) seat.number (shape self.old) }
+        ensures after { (told result, shape self.new) ≡ check_by (T.meaning table.now) seat.number (shape self.old) }
     {
         let stamp = self.stamp(seat);
         let entry = self.writes[k - (self.writes.len() + 2 * self.reads.len())];
@@ -137,8 +137,8 @@ impl Worker {
         seat: Seat,
         call: Step,
     ) -> Result<u64, Refusal>
-        ensures after { (told result, (shape self.new, (meaning table.new).versions)) ≡ step_by call (meaning table.old) seat.number (shape self.old) }
-        ensures beneath { StepsUpon (meaning table.old) (told result) (calls_for call seat.number (shape self.old)) (meaning table.new) }
+        ensures after { (told result, (shape self.new, (T.meaning table.new).versions)) ≡ step_by call (T.meaning table.old) seat.number (shape self.old) }
+        ensures beneath { StepsUpon (T.meaning table.old) (told result) (calls_for call seat.number (shape self.old)) (T.meaning table.new) }
     {
         let w = self.writes.len();
         let r = self.reads.len();

@@ -5,8 +5,8 @@ use Rattle.chains.specs.Walk.{above, low, Placed}
 use Rattle.chains.proofs.Walks.{at_some, at_none, shorter, longer, place_on, last_push, place_low}
 use Rattle.chains.proofs.walk.place_of.Goals as goal
 
-pub record-at-record-requires : goal.record-at-record-requires
-record-at-record-requires c =
+pub record_at-record-requires : goal.record_at-record-requires
+record_at-record-requires c =
     (at_some c.args.records.now c.loop-older.older c.in-Some.i c.loop-older.invariant.1 c.in-Some.is).within
 
 pub returns-then-record-stamp : goal.returns-then-record-stamp
@@ -14,7 +14,7 @@ returns-then-record-stamp c =
     let rs = c.args.records.now in
     let h = c.loop-older.invariant in
     let is = c.in-Some.is in
-    let e = ap (λ (z : Record). z.version.write) c.record-at-record.ensures in
+    let e = ap (λ (z : Record). z.version.write) c.record_at-record.ensures in
     subst (λ (z : Option ℕ). Placed rs c.args.first c.args.stamp c.loop-older.newer z) is
     (record {
       front = h.0;
@@ -28,7 +28,7 @@ returns-then-record-stamp c =
 pub loop-older-smaller : goal.loop-older-smaller
 loop-older-smaller c =
     let rs = c.args.records.now in
-    let next = ap (λ (z : Record). z.next) c.record-at-record.ensures in
+    let next = ap (λ (z : Record). z.next) c.record_at-record.ensures in
     subst (λ (z : Option ℕ). length (path rs z) < length (path rs c.loop-older.older)) (sym next)
     (omega (arith, shorter rs c.loop-older.older c.in-Some.i c.loop-older.invariant.1 c.in-Some.is))
 
@@ -38,8 +38,8 @@ loop-older-preserved c =
     let h = c.loop-older.invariant in
     let i = c.in-Some.i in
     let is = c.in-Some.is in
-    let next = ap (λ (z : Record). z.next) c.record-at-record.ensures in
-    let e = ap (λ (z : Record). z.version.write) c.record-at-record.ensures in
+    let next = ap (λ (z : Record). z.next) c.record_at-record.ensures in
+    let e = ap (λ (z : Record). z.version.write) c.record_at-record.ensures in
     subst (λ (z : Option ℕ). (q : List ℕ) × (good rs z ≡ true) × (path rs c.args.first ≡ q ++ path rs z) × (Some i ≡ last_of None q) × (above c.args.stamp (map (version_of rs) q) ≡ true)) (sym next)
     (h.0 ++ (i ∷ []), (at_some rs c.loop-older.older i h.1 is).onward, longer rs c.args.first c.loop-older.older h.0 i h.1 h.2 is, last_push h.0 i None, place_on rs c.args.first c.loop-older.older h.0 i h.1 h.2 is c.args.stamp h.4 (omega (arith, e, c.if-record-stamp.false)))
 
@@ -53,5 +53,5 @@ returns c =
       onward = h.1;
       last = h.3;
       high = h.4;
-      rest = ap (λ (q : List ℕ). low c.args.stamp (map (version_of rs) q)) (at_none rs c.loop-older.older c.in-default.is);
+      rest = ap (λ (q : List ℕ). low c.args.stamp (map (version_of rs) q)) (at_none rs c.loop-older.older c.in_default.is);
     }

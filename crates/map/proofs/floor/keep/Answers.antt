@@ -5,7 +5,7 @@ use Rattle.map.specs.Plate.{seated}
 use Rattle.map.proofs.Places.{seated_at}
 use Rattle.map.proofs.Lowest.{lowest, lowest_all, keep_look, keep_rest}
 use Rattle.map.proofs.floor.keep.Goals as goal
-use Rattle.map.proofs.floor.keep.Goals.{in-Some, in-default}
+use Rattle.map.proofs.floor.keep.Goals.{in-Some, in_default}
 
 pub loop-worker-preserved : goal.loop-worker-preserved
 loop-worker-preserved c =
@@ -14,9 +14,9 @@ loop-worker-preserved c =
     let b = c.args.floor in
     let x = c.worker-item.result in
     let here : shape x ≡ seated ws i = ap shape c.worker-item.is ∙ sym (seated_at ws i x c.loop-worker-test.true) in
-    elim c.match-look-floor.branch [
+    elim c.match-look_floor.branch [
       | in-Some w ↦ keep_look ws b i x c.loop-worker.least w.in-Some.look _ here c.loop-worker.invariant (sym w.in-Some.ensures) (search rules)
-      | in-default w ↦ keep_rest ws b i x c.loop-worker.least _ here c.loop-worker.invariant (search rules) (search rules)
+      | in_default w ↦ keep_rest ws b i x c.loop-worker.least _ here c.loop-worker.invariant (search rules) (search rules)
     ]
 
 pub returns : goal.returns

@@ -7,6 +7,6 @@ returns g c =
     let t = g.T.VersionTable.meaning c.args.table.now in
     let u = g.T.VersionTable.meaning c.raise.new.self in
     record {
-      answer = c.is-ok.ensures.value ∙ raise_finds t c.args.cell c.args.stamp c.raise.result c.raise.ensures.answer;
+      answer = c.is_ok.ensures.value ∙ raise_finds t c.args.cell c.args.stamp c.raise.result c.raise.ensures.answer;
       after = raise_asks t u c.args.cell c.args.stamp c.raise.result c.raise.ensures.after;
     }

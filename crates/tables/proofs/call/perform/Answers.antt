@@ -15,7 +15,7 @@ returns-in-Cells g c =
 pub returns-in-FreePlaces : goal.returns-in-FreePlaces
 returns-in-FreePlaces g c =
     let t = g.T.VersionTable.meaning c.args.table.now in
-    let p = performed t t (FreePlaces c.in-FreePlaces.cell) c.args.call _ c.in-FreePlaces.is (c.number.ensures ∙ ap numbered c.free-places.ensures) refl in
+    let p = performed t t (FreePlaces c.in-FreePlaces.cell) c.args.call _ c.in-FreePlaces.is (c.number.ensures ∙ ap numbered c.free_places.ensures) refl in
     record { answer = p.0; after = p.1; strict = p.2 }
 
 pub returns-in-Length : goal.returns-in-Length

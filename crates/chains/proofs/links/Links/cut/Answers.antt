@@ -1,4 +1,4 @@
-use Rattle.std.proofs.Common.{ℕ, ◌+◌, ◌<◌, length, Some, None, Option, sym, ap, ◌∙◌, subst, arith}
+use Rattle.std.proofs.Common.{ℕ, ◌+◌, ◌<◌, length, Some, None, Option, sym, ap, ◌∙◌, arith}
 use mathlib.Core.Path.{subst⁻¹}
 use Rattle.tables.specs.Versions.{stays}
 use Rattle.chains.specs.declared.record.Record.{Record}
@@ -17,8 +17,8 @@ pub record-record-requires : goal.record-record-requires
 record-record-requires c =
     (at_some (store c.loop-at.self).records c.loop-at.at c.in-Some.i c.loop-at.invariant.onward c.in-Some.is).within
 
-pub give-back-requires : goal.give-back-requires
-give-back-requires c =
+pub give_back-requires : goal.give_back-requires
+give_back-requires c =
     let s₀ = store c.args.self.now in
     let s = store c.loop-at.self in
     let h = c.loop-at.invariant in
@@ -50,7 +50,7 @@ loop-at-preserved c =
     let in' : c.args.cell < s.cells = omega (arith, h.unused.cells, c.requires.within) in
     let next = ap (λ (z : Record). z.next) c.record-record.ensures in
     let no' = ap (λ (z : Record). stays c.args.stamp z.version) (sym c.record-record.ensures) ∙ sym c.if-stays.ensures in
-    subst⁻¹ (λ (t : Store). Cutting s₀ t c.args.cell c.args.stamp c.loop-at.newer c.record-record.result.next (c.loop-at.gone + 1)) c.give-back.ensures
+    subst⁻¹ (λ (t : Store). Cutting s₀ t c.args.cell c.args.stamp c.loop-at.newer c.record-record.result.next (c.loop-at.gone + 1)) c.give_back.ensures
     (subst⁻¹ (λ (z : Option ℕ). Cutting s₀ (freed s c.args.cell c.loop-at.newer c.in-Some.i) c.args.cell c.args.stamp c.loop-at.newer z (c.loop-at.gone + 1)) next
     (cut_give s₀ s c.args.cell c.args.stamp in' c.loop-at.newer c.loop-at.at c.loop-at.gone h c.in-Some.i c.in-Some.is no'))
 
@@ -70,11 +70,11 @@ loop-at-smaller c =
     let h = c.loop-at.invariant in
     let in' : c.args.cell < s.cells = omega (arith, h.unused.cells, c.requires.within) in
     let next = ap (λ (z : Record). z.next) c.record-record.ensures in
-    subst⁻¹ (λ (t : Store). length (path t.records c.record-record.result.next) < length (path s.records c.loop-at.at)) c.give-back.ensures
+    subst⁻¹ (λ (t : Store). length (path t.records c.record-record.result.next) < length (path s.records c.loop-at.at)) c.give_back.ensures
     (subst⁻¹ (λ (z : Option ℕ). length (path (freed s c.args.cell c.loop-at.newer c.in-Some.i).records z) < length (path s.records c.loop-at.at)) next
     (give_shorter s₀ s c.args.cell c.args.stamp in' c.loop-at.newer c.loop-at.at c.loop-at.gone h c.in-Some.i c.in-Some.is))
 
 pub returns : goal.returns
 returns c =
-    let done = cut_end (store c.args.self.now) (store c.loop-at.self) c.args.cell c.args.stamp c.loop-at.newer c.loop-at.at c.loop-at.gone c.loop-at.invariant c.in-default.is in
+    let done = cut_end (store c.args.self.now) (store c.loop-at.self) c.args.cell c.args.stamp c.loop-at.newer c.loop-at.at c.loop-at.gone c.loop-at.invariant c.in_default.is in
     record { kept = done.kept; answer = done.answer; after = done.cut; unused = done.unused }

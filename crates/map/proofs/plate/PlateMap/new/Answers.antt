@@ -3,5 +3,5 @@ use Rattle.map.proofs.plate.PlateMap.new.Goals as goal
 
 pub returns : goal.returns
 returns g c =
-    let e = c.in-ok-crew.ensures in
-    (c.clear.ensures.after, made_map (g.T.VersionTable.meaning c.args.table.now) (g.T.VersionTable.meaning c.clear.new.self) c.in-ok-crew.crew.inner c.args.workers c.clear.ensures.after e.0 e.1 e.2)
+    let e = c.in_ok-crew.ensures in
+    (c.clear.ensures.after, made_map (g.T.VersionTable.meaning c.args.table.now) (g.T.VersionTable.meaning c.clear.new.self) c.in_ok-crew.crew.inner c.args.workers c.clear.ensures.after e.0 e.1 e.2)

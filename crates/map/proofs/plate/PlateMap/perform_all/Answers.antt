@@ -14,7 +14,7 @@ loop-call-preserved g c =
       search rules,
       λ workers cells es run.
           subst (λ (events : List Event). Run workers cells events (g.T.VersionTable.meaning c.perform-answer.new.self.table.now) (plate (g.T.VersionTable.meaning c.perform-answer.new.self.table.now) c.perform-answer.new.self.crew.inner))
-          (sym (events_push cs (vec_items c.loop-call.answers) (vec_items c.push-reserved.new.self) i (Begin 0 0) c.perform-answer.result es (search rules) (search rules) c.loop-call-test.true))
+          (sym (events_push cs (vec_items c.loop-call.answers) (vec_items c.push_reserved.new.self) i (Begin 0 0) c.perform-answer.result es (search rules) (search rules) c.loop-call-test.true))
           (c.perform-answer.ensures.longer workers cells _ (c.loop-call.invariant.2 workers cells es run)),
     )
 

@@ -9,23 +9,23 @@ use Rattle.rows.specs.Search.{First}
 use Rattle.rows.proofs.Found.{found_pending, found_changed}
 use Rattle.rows.proofs.row.Row.mark.Goals as goal
 
-pub returns-in-default : goal.returns-in-default
-returns-in-default c =
+pub returns-in_default : goal.returns-in_default
+returns-in_default c =
     let vs = row_list c.args.self.now in
-    let none = none_pending c.args.stamp vs (sym (ap (holds c.args.stamp) c.list.ensures) ∙ sym c.in-default.ensures.test) in
+    let none = none_pending c.args.stamp vs (sym (ap (holds c.args.stamp) c.list.ensures) ∙ sym c.in_default.ensures.test) in
     record { answer = rw none; after = refl }
 
-pub returns-then-not-is-pending : goal.returns-then-not-is-pending
-returns-then-not-is-pending c =
+pub returns-then-not-is_pending : goal.returns-then-not-is_pending
+returns-then-not-is_pending c =
     let first = subst (λ (xs : List Version). First c.args.stamp xs c.in-Some.at) c.list.ensures c.in-Some.ensures.found in
-    let over = found_pending first ∙ ap (λ (xs : List Version). pending (get_or xs c.in-Some.at absent).status) (sym c.list-2.ensures) ∙ sym c.if-not-is-pending.ensures in
+    let over = found_pending first ∙ ap (λ (xs : List Version). pending (get_or xs c.in-Some.at absent).status) (sym c.list-2.ensures) ∙ sym c.if-not-is_pending.ensures in
     record { answer = rw over; after = refl }
 
 pub returns : goal.returns
 returns c =
     let vs = row_list c.args.self.now in
     let first = subst (λ (xs : List Version). First c.args.stamp xs c.in-Some.at) c.list.ensures c.in-Some.ensures.found in
-    let open' = found_pending first ∙ ap (λ (xs : List Version). pending (get_or xs c.in-Some.at absent).status) (sym c.list-2.ensures) ∙ sym c.if-not-is-pending.ensures in
+    let open' = found_pending first ∙ ap (λ (xs : List Version). pending (get_or xs c.in-Some.at absent).status) (sym c.list-2.ensures) ∙ sym c.if-not-is_pending.ensures in
     record {
       answer = rw open';
       after = c.replace.ensures ∙ ap (set vs c.in-Some.at) (cc) ∙ sym (found_changed first (marked c.args.ending));

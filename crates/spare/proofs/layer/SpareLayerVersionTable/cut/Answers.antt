@@ -14,9 +14,9 @@ returns g c =
     let u = g.T.VersionTable.meaning c.cut.new.self in
     let sound = g.T.VersionTable.sound self.below.now in
     let spares = spare_at self.spares.places in
-    let below = c.in-ok-removed.ensures in
+    let below = c.in_ok-removed.ensures in
     let count = count_both stamp (spares cell) (t.versions cell) (sound.sinking cell) in
     record {
-      answer = held_sum t cell (cut_count stamp (t.versions cell)) (lost stamp (spares cell)) _ count c.in-ok-removed.removed c.cut-2.result c.saturating-add.result below.answer c.cut-2.ensures.answer c.saturating-add.ensures;
+      answer = held_sum t cell (cut_count stamp (t.versions cell)) (lost stamp (spares cell)) _ count c.in_ok-removed.removed c.cut-2.result c.saturating_add.result below.answer c.cut-2.ensures.answer c.saturating_add.ensures;
       after = layered_cut spares (spare_at c.cut-2.new.self.places) t u cell stamp sound c.cut-2.ensures.after below.after;
     }

@@ -33,14 +33,14 @@ returns-else-spare-stamp g c =
       after = layered_insert spares t u c.args.cell c.args.stamp other c.insert.result c.args.value c.insert.ensures.after;
     }
 
-pub returns-else-has-stamp : goal.returns-else-has-stamp
-returns-else-has-stamp g c =
+pub returns-else-has_stamp : goal.returns-else-has_stamp
+returns-else-has_stamp g c =
     let self = c.args.self.now in
     let t = g.T.VersionTable.meaning self.below.now in
     let spares = spare_at self.spares.places in
     let spares' = spare_at c.put.new.self.places in
     let done = spare_insert spares spares' t c.args.cell c.args.stamp c.args.value c.in-None.ensures (c.put.ensures ∙ ap (λ (v : Version). put spares c.args.cell (Some v)) c.pending.ensures) in
     record {
-      answer = insert_spare spares t c.args.cell c.args.stamp (omega (arith, c.cells.ensures)) c.in-None.ensures c.if-has-stamp.ensures.answer;
-      after = subst⁻¹ (λ (u : Table). Inserted (layered spares t) (layered spares' u) c.args.cell c.args.stamp c.args.value) c.has-stamp.ensures.after done;
+      answer = insert_spare spares t c.args.cell c.args.stamp (omega (arith, c.cells.ensures)) c.in-None.ensures c.if-has_stamp.ensures.answer;
+      after = subst⁻¹ (λ (u : Table). Inserted (layered spares t) (layered spares' u) c.args.cell c.args.stamp c.args.value) c.has_stamp.ensures.after done;
     }

@@ -10,4 +10,4 @@ returns g c =
     let t = g.T.VersionTable.meaning self.below.now in
     let vs = t.versions c.args.cell in
     let o = spare_at self.spares.places c.args.cell in
-    held_sum t c.args.cell (length vs) (taken o) _ (length_both o vs) c.in-ok-length.length c.taken.result c.saturating-add.result c.in-ok-length.ensures c.taken.ensures c.saturating-add.ensures
+    held_sum t c.args.cell (length vs) (taken o) _ (length_both o vs) c.in_ok-length.length c.taken.result c.saturating_add.result c.in_ok-length.ensures c.taken.ensures c.saturating_add.ensures

@@ -5,13 +5,13 @@ use Rattle.spare.proofs.Answered.{raise_below, raise_spare}
 use Rattle.spare.proofs.Layered.{layered_change, spare_change}
 use Rattle.spare.proofs.layer.SpareLayerVersionTable.raise.Goals as goal
 
-pub returns-in-default : goal.returns-in-default
-returns-in-default g c =
+pub returns-in_default : goal.returns-in_default
+returns-in_default g c =
     let self = c.args.self.now in
     let t = g.T.VersionTable.meaning self.below.now in
     let u = g.T.VersionTable.meaning c.raise.new.self in
     let spares = spare_at self.spares.places in
-    let other = c.in-default.ensures in
+    let other = c.in_default.ensures in
     record {
       answer = raise_below spares t c.args.cell c.args.stamp other _ c.raise.ensures.answer;
       after = layered_change spares t u c.args.cell c.args.stamp other c.raise.result (raised c.args.to) (λ v. refl) c.raise.ensures.after;

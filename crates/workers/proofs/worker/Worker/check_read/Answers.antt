@@ -15,7 +15,7 @@ returns-then-version-entry g c =
     let x = shape s in
     let k = c.args.k in
     record {
-      after = read_same t w x rs ws k (search rules) e c.in-Ok.version (shape c.go-on.new.self) c.go-on.result c.go-on.ensures.answer c.go-on.ensures.after c.if-version-entry.true ∙
+      after = read_same t w x rs ws k (search rules) e c.in-Ok.version (shape c.go_on.new.self) c.go_on.result c.go_on.ensures.answer c.go_on.ensures.after c.if-version-entry.true ∙
           checked_read t w x rs ws k (search rules) e (accepted c.in-Ok.version) (next_check_read rs ws k e (search rules) (search rules) (search rules)) (rw c.stamp.ensures at c.in-Ok.ensures);
     }
 

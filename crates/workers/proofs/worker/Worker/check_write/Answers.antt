@@ -30,7 +30,7 @@ returns-else-version-stamp g c =
     let x = shape s in
     let k = c.args.k in
     record {
-      after = write_early t w x rs ws k (search rules) e c.in-Ok.version (shape c.go-on.new.self) c.go-on.result c.go-on.ensures.answer c.go-on.ensures.after (rw c.stamp-stamp.ensures at c.if-version-stamp.false) ∙
+      after = write_early t w x rs ws k (search rules) e c.in-Ok.version (shape c.go_on.new.self) c.go_on.result c.go_on.ensures.answer c.go_on.ensures.after (rw c.stamp-stamp.ensures at c.if-version-stamp.false) ∙
           checked_write t w x rs ws k (search rules) e (accepted c.in-Ok.version) (next_check_write rs ws k e (search rules) (search rules) (search rules)) (rw c.stamp-stamp.ensures at c.in-Ok.ensures);
     }
 

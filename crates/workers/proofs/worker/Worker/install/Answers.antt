@@ -10,8 +10,8 @@ returns-in-Ok g c =
     let ws = vec_items s.writes in
     let e = c.index-entry.result.now in
     let r = installed (g.T.VersionTable.meaning c.args.table.now) c.args.seat.number (shape s) rs ws c.args.k (search rules)
-    (g.T.VersionTable.meaning c.insert.new.self) e (shape c.go-on.new.self) c.go-on.result _ (next_install rs ws c.args.k e (search rules) (search rules))
-    c.go-on.ensures.answer c.go-on.ensures.after (rw c.stamp.ensures at c.in-Ok.ensures.answer) (rw c.stamp.ensures at c.in-Ok.ensures.after) in
+    (g.T.VersionTable.meaning c.insert.new.self) e (shape c.go_on.new.self) c.go_on.result _ (next_install rs ws c.args.k e (search rules) (search rules))
+    c.go_on.ensures.answer c.go_on.ensures.after (rw c.stamp.ensures at c.in-Ok.ensures.answer) (rw c.stamp.ensures at c.in-Ok.ensures.after) in
     record { after = r.0; beneath = r.1 }
 
 pub returns-in-Err : goal.returns-in-Err

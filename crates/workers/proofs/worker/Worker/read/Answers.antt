@@ -13,8 +13,8 @@ returns-in-Some-find g c =
     let s = c.args.self.now in
     read_seen (shape s) (vec_items s.reads) (vec_items s.writes) (search rules) (g.T.VersionTable.meaning c.args.table.now) c.args.seat.number c.args.cell c.in-Some-find.i c.index-in-Some-find.result.now (search rules) (search rules) (search rules)
 
-pub returns-in-default-find-2 : goal.returns-in-default-find-2
-returns-in-default-find-2 g c =
+pub returns-in_default-find-2 : goal.returns-in_default-find-2
+returns-in_default-find-2 g c =
     let s = c.args.self.now in
     let t = read_fresh (shape s) (vec_items s.reads) (vec_items s.writes) (search rules) (g.T.VersionTable.meaning c.args.table.now) c.args.seat.number c.args.cell (search rules) (search rules) in
     search (rules, t)
