@@ -1,7 +1,7 @@
 -- Lists whose stamps are below the top: every search reaches all of such a list.
-use Rattle.std.proofs.Common.{◌≡◌, ℕ, ◌^◌, ◌<◌, true, List, [], ◌∷◌, Some, None, Option, sym, refl, arith}
+use Rattle.std.proofs.Common.{◌≡◌, ℕ, ◌^◌, ◌<◌, true, List, [], ◌∷◌, Some, sym, refl, arith}
 use Rattle.std.proofs.lemmas.Bool.Decides.{nat_tests}
-use Rattle.words.specs.Outcome.{Outcome, accepted, refused}
+use Rattle.words.specs.Outcome.{refused}
 use Rattle.words.specs.declared.version.Version.{Version}
 use Rattle.tables.specs.Versions.{top, falls}
 use Rattle.rules.specs.Search.{reach, newest, newest_below}

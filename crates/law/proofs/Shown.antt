@@ -6,11 +6,10 @@ use Rattle.words.specs.declared.refusal.Refusal.TheVariants.{NoWorker}
 use Rattle.words.specs.declared.version.Version.{Version}
 use Rattle.tables.specs.Versions.{top}
 use Rattle.rules.specs.declared.call.Call.TheVariants.{Show, Look}
-use Rattle.rules.specs.Model.{Stage, idle, open', sealed, looking, Worker, Model, table_of, at_stage}
+use Rattle.rules.specs.Model.{Stage, idle, open', sealed, looking, Model, table_of, with_worker, at_stage}
 use Rattle.rules.specs.Stamps.{floor, keep_line}
 use Rattle.rules.specs.Search.{newest_below, search}
-use Rattle.rules.specs.Rules.{outcome}
-use Rattle.rules.specs.Turns.{Came, accept, deny, upon, if_idle, in_place}
+use Rattle.rules.specs.Rules.{Done, accept, deny, upon, if_idle, outcome}
 use Rattle.law.specs.Plain.{after, by_stamp}
 use Rattle.law.specs.History.{Glance, History}
 use Rattle.law.specs.Law.{Least, Snapshots}
@@ -57,10 +56,10 @@ module _ (m : Model) (h : History) (good : Good m h) (free : ℕ → ℕ) where
   look_answers : (w f : ℕ) → (outcome free m (Look w)).0 ≡ accepted f → floor m ≡ f
   look_answers w f e = by (ltb w m.workers) (m.worker w).stage e
     where
-      next : Came Worker
-      next = accept (floor m) (at_stage (m.worker w) (looking (floor m)))
+      next : Done
+      next = accept (floor m) (with_worker m w (at_stage (m.worker w) (looking (floor m))))
 
-      by : (b : Bool) (g : Stage) → (cond b (in_place m w (if_idle g (m.worker w) next)) (deny NoWorker m)).0 ≡ accepted f → floor m ≡ f
+      by : (b : Bool) (g : Stage) → (cond b (if_idle g m next) (deny NoWorker m)).0 ≡ accepted f → floor m ≡ f
       by true idle e = let z : floor m ≡ f = cc in z
       by true (open' rs ws) e = absurd (let z : ◌≡◌ {A = ℕ} 0 1 = cc in omega arith)
       by true (sealed rs ws k) e = absurd (let z : ◌≡◌ {A = ℕ} 0 1 = cc in omega arith)

@@ -1,6 +1,6 @@
 -- The rules of the map once more, cut by worker: a worker's call is a rule over that worker (`begin_by`
 -- and so on), and `turn_outcome` puts what it comes to back into the model. It is the rules' function.
-use Rattle.std.specs.Prelude.{ℕ, ◌+◌, ◌-◌, ◌*◌, min, max, cond, List, [], ◌∷◌, ◌++◌, length, take, Some, None, Option, ◌==◌, nat_lt}
+use Rattle.std.specs.Prelude.{ℕ, ◌+◌, ◌-◌, min, max, cond, List, [], ◌∷◌, ◌++◌, length, take, Some, None, Option, ◌==◌, nat_lt}
 use Rattle.words.specs.Outcome.{Outcome, accepted, refused, refuse}
 use Rattle.words.specs.declared.refusal.Refusal.{Refusal}
 use Rattle.words.specs.declared.refusal.Refusal.TheVariants.{NoWorker, NoCell, OutOfTurn, SetFull, ClockSpent, Changed, ReadLater}
@@ -8,15 +8,15 @@ use Rattle.words.specs.declared.status.Ending.{Ending}
 use Rattle.words.specs.declared.status.Ending.TheVariants.{Commit as Commits', Abort as Aborts'}
 use Rattle.words.specs.declared.version.Version.{Version}
 use Rattle.words.specs.Version.{new_version}
-use Rattle.tables.specs.Versions.{with_version, at_stamp, raised, marked, kept}
-use Rattle.tables.specs.Table.{Table, put, insert_answer, raise_answer, mark_answer, cut_answer}
+use Rattle.tables.specs.Versions.{with_version, at_stamp, raised, kept}
+use Rattle.tables.specs.Table.{Table, put, insert_answer, raise_answer, cut_answer}
 use Rattle.rules.specs.declared.entry.ReadEntry.{ReadEntry}
 use Rattle.rules.specs.declared.entry.WriteEntry.{WriteEntry}
 use Rattle.rules.specs.declared.call.Call.{Call}
 use Rattle.rules.specs.declared.call.Call.TheVariants.{Begin, Pulse, Sync, Read, Write, Seal, Install, Stamp, Check, Commit, Abort, Look, Close, Show, Commits, Collect}
 use Rattle.rules.specs.Model.{Stage, idle, open', sealed, looking, Worker, Model, table_of, with_worker, with_list, with_lists, with_commits, at_stage}
 use Rattle.rules.specs.Stamps.{last_clock, adjusted, ticked, timestamp, floor, keep_line}
-use Rattle.rules.specs.Sets.{find_read, find_write, full, replaced, nth}
+use Rattle.rules.specs.Sets.{find_read, find_write, full, replaced}
 use Rattle.rules.specs.Search.{visible, newest, newest_below, search}
 use Rattle.rules.specs.Rules.{Done, Step, to_install, to_stamp, to_check_read, to_check_write, finished, next_step, steps, gone, ended_all}
 
