@@ -1,8 +1,10 @@
 -- What a search looks for, as the rules say it, and what one version is to it.
-use Rattle.std.specs.Prelude.{cond, List, nat_lt}
-use Rattle.words.specs.Outcome.{Outcome}
+use Rattle.std.specs.Prelude.{ℕ, cond, List, drop, Ok, Err, Result, Some, None, Option, nat_lt}
+use Rattle.words.specs.Outcome.{Outcome, accepted, refuse}
+use Rattle.words.specs.declared.refusal.Refusal.{Refusal}
 use Rattle.words.specs.declared.version.Version.{Version}
-use Rattle.rules.specs.Search.{by_status, visible, newest, newest_below}
+use Rattle.tables.specs.Table.{Table, in_cell}
+use Rattle.rules.specs.Search.{reach, by_status, visible, newest, newest_below}
 use Rattle.searches.specs.declared.sought.Sought.{Sought}
 use Rattle.searches.specs.declared.sought.Sought.TheVariants.{Visible, Newest, NewestBelow}
 use Rattle.searches.specs.declared.sought.Verdict.{Verdict}
@@ -17,3 +19,13 @@ abbrev pub judged : Sought → Version → Verdict
 judged (Visible s) v = cond (nat_lt v.write s) (by_status v.status Waited Found Passed) Passed
 judged Newest v = by_status v.status Passed Found Passed
 judged (NewestBelow s) v = cond (nat_lt v.write s) (by_status v.status Passed Found Passed) Passed
+
+-- what a search comes to from the position i on
+abbrev pub left : Table → ℕ → Sought → ℕ → Outcome Version
+left t c s i = in_cell t c (looks_for s (drop i (reach (t.versions c))))
+
+-- what one turn of a search makes of it: found, refused, or what is left
+abbrev pub turned : Result (Option Version) Refusal → Outcome Version → Outcome Version
+turned (Ok (Some v)) rest = accepted v
+turned (Ok None) rest = rest
+turned (Err e) rest = refuse e

@@ -29,7 +29,7 @@ impl NamesCell for WriteEntry {
 
 // The position of the first entry for a cell.
 pub fn find<E: NamesCell>(entries: &[E], cell: u64) -> Option<usize>
-    ensures place { result ≡ place named cell 0 entries.now }
+    ensures place { result ≡ place E.named cell 0 entries.now }
     ensures within { IfSome result (λ i. i < length entries.now) }
 {
     for (i, entry) in entries.iter().enumerate() {

@@ -1,31 +1,23 @@
-use Rattle.std.proofs.Common.{sym, refl, ◌∙◌, arith}
-use Rattle.searches.specs.declared.sought.Verdict.TheVariants.{Passed, Found, Waited}
-use Rattle.searches.proofs.Steps.{turn_refused, turn_judged, turn_none, cell_there}
+use Rattle.std.proofs.Common.{◌≡◌, ◌^◌, ◌-◌, Ok, sym, ap, ◌∙◌, arith}
+use Rattle.searches.specs.Judge.{left, turned}
+use Rattle.searches.proofs.Steps.{turn_none}
 use Rattle.searches.proofs.walk.search.Goals as goal
 
-pub returns-in-Err : goal.returns-in-Err
-returns-in-Err g c =
+pub returns-in-Ok-Some-turn : goal.returns-in-Ok-Some-turn
+returns-in-Ok-Some-turn g c =
     let t = g.T.VersionTable.meaning c.args.table.now in
-    sym (c.loop-at.invariant.0 ∙ turn_refused t c.args.cell c.loop-at.at c.args.sought (omega arith) _ c.in-Err.ensures _ _ refl)
+    let last : c.loop-at.at ≡ 2 ^ 64 - 1 = omega arith in
+    sym (c.loop-at.invariant ∙ ap (left t c.args.cell c.args.sought) last ∙ c.turn-2.ensures.left ∙ ap (λ r. turned r (left t c.args.cell c.args.sought (2 ^ 64))) (c.in-Ok-Some-turn.is ∙ ap Ok c.in-Ok-Some-turn.field-0-is))
 
-pub returns-in-Found : goal.returns-in-Found
-returns-in-Found g c =
+pub returns-in-Ok-None-turn : goal.returns-in-Ok-None-turn
+returns-in-Ok-None-turn g c =
     let t = g.T.VersionTable.meaning c.args.table.now in
-    sym (c.loop-at.invariant.0 ∙ turn_judged t c.args.cell c.loop-at.at c.args.sought (omega arith) c.in-Ok.version Found c.in-Ok.ensures c.in-Found.ensures)
+    let last : c.loop-at.at ≡ 2 ^ 64 - 1 = omega arith in
+    sym (c.loop-at.invariant ∙ ap (left t c.args.cell c.args.sought) last ∙ c.turn-2.ensures.left ∙ ap (λ r. turned r (left t c.args.cell c.args.sought (2 ^ 64))) (c.in-Ok-None-turn.is ∙ ap Ok c.in-Ok-None-turn.field-0-is) ∙
+    turn_none t c.args.cell (2 ^ 64) c.args.sought (omega arith) c.in-Ok-None-turn.ensures.there)
 
-pub returns-in-Waited : goal.returns-in-Waited
-returns-in-Waited g c =
+pub returns-in-Err-turn : goal.returns-in-Err-turn
+returns-in-Err-turn g c =
     let t = g.T.VersionTable.meaning c.args.table.now in
-    sym (c.loop-at.invariant.0 ∙ turn_judged t c.args.cell c.loop-at.at c.args.sought (omega arith) c.in-Ok.version Waited c.in-Ok.ensures c.in-Waited.ensures)
-
-pub loop-at-preserved : goal.loop-at-preserved
-loop-at-preserved g c =
-    let t = g.T.VersionTable.meaning c.args.table.now in (
-      c.loop-at.invariant.0 ∙ turn_judged t c.args.cell c.loop-at.at c.args.sought (omega arith) c.in-Ok.version Passed c.in-Ok.ensures c.in-Passed.ensures,
-      λ _. cell_there t c.args.cell c.loop-at.at c.args.sought (omega arith) c.in-Ok.version c.in-Ok.ensures,
-    )
-
-pub returns : goal.returns
-returns g c =
-    let t = g.T.VersionTable.meaning c.args.table.now in
-    sym (c.loop-at.invariant.0 ∙ turn_none t c.args.cell c.loop-at.at c.args.sought (omega arith) (c.loop-at.invariant.1 (omega arith)))
+    let last : c.loop-at.at ≡ 2 ^ 64 - 1 = omega arith in
+    sym (c.loop-at.invariant ∙ ap (left t c.args.cell c.args.sought) last ∙ c.turn-2.ensures.left ∙ ap (λ r. turned r (left t c.args.cell c.args.sought (2 ^ 64))) c.in-Err-turn.is)
