@@ -8,9 +8,10 @@ use Rattle.tables.proofs.Reaches.{step_cells}
 use Rattle.rules.specs.declared.call.Call.{Call}
 use Rattle.rules.specs.Model.{Worker, Model, new_worker, new_map, workers_of}
 use Rattle.rules.specs.Rules.{Done, outcome}
-use Rattle.rules.specs.Turns.{Came, Lists, deny, in_place, in_both, with_a_worker, at_worker, at_both}
+use Rattle.rules.specs.Turns.{Came, Lists, deny, in_place, in_both, with_a_worker, at_worker, at_both, turn_outcome}
 use Rattle.rules.specs.Beneath.{Steps, StepsUpon, beneath, Beneath}
 use Rattle.rules.proofs.Refusals.{refused_unchanged}
+use Rattle.rules.proofs.Same.{same_outcome}
 use Rattle.law.specs.History.{Event}
 use Rattle.law.specs.Run.{Run, more}
 use Rattle.workers.specs.declared.worker.Worker.{Worker as Place}
@@ -34,15 +35,17 @@ none_beneath t (accepted n) = refl
 none_beneath t (refused n d) = refl
 
 -- the answer and the steps are all that is to be shown
-pub performed : (t u : Table) (i j : Inner) (call : Call) (answer : Outcome ℕ) → (answer, plate u j) ≡ outcome t.free (plate t i) call → Beneath t (plate t i) call answer u → Performed t i call answer u j
-performed t u i j call answer after beneath = record {
-  after = after;
-  beneath = beneath;
-  unchanged = λ n d e. (
-    ap (λ (z : Done). z.1) after ∙ refused_unchanged t.free (plate t i) call n d (ap (λ (z : Done). z.0) (sym after) ∙ e),
-    subst (λ (o : Outcome ℕ). Beneath t (plate t i) call o u) e beneath,
-  );
-}
+pub performed : (t u : Table) (i j : Inner) (call : Call) (answer : Outcome ℕ) → (answer, plate u j) ≡ turn_outcome t.free (plate t i) call → Beneath t (plate t i) call answer u → Performed t i call answer u j
+performed t u i j call answer turn beneath =
+    let after : (answer, plate u j) ≡ outcome t.free (plate t i) call = turn ∙ same_outcome t.free (plate t i) call in
+    record {
+      after = after;
+      beneath = beneath;
+      unchanged = λ n d e. (
+        ap (λ (z : Done). z.1) after ∙ refused_unchanged t.free (plate t i) call n d (ap (λ (z : Done). z.0) (sym after) ∙ e),
+        subst (λ (o : Outcome ℕ). Beneath t (plate t i) call o u) e beneath,
+      );
+    }
 
 abbrev pub over : Table → List Place → ℕ → ℕ → Model
 over t xs n m = record { workers = n; worker = seated xs; cells = t.cells; lists = t.versions; commits = m }

@@ -43,7 +43,7 @@ impl Crew {
         worker: u64,
         call: Step,
     ) -> Result<u64, Refusal>
-        ensures { Performed (meaning table.old) self.old.inner (step_call call worker) (told result) (meaning table.new) self.new.inner }
+        ensures { Performed (T.meaning table.old) self.old.inner (step_call call worker) (told result) (T.meaning table.new) self.new.inner }
     {
         match self.seat(worker) {
             Ok(seat) => self.inner.worker(worker as usize).step(table, seat, call),
@@ -86,7 +86,7 @@ impl Crew {
         worker: u64,
         cell: u64,
     ) -> Result<u64, Refusal>
-        ensures { Performed (meaning table.now) self.old.inner (Read worker cell) (told result) (meaning table.now) self.new.inner }
+        ensures { Performed (T.meaning table.now) self.old.inner (Read worker cell) (told result) (T.meaning table.now) self.new.inner }
     {
         match self.seat(worker) {
             Ok(seat) => {
@@ -143,7 +143,7 @@ impl Crew {
         table: &mut T,
         worker: u64,
     ) -> Result<u64, Refusal>
-        ensures { Performed (meaning table.old) self.old.inner (Abort worker) (told result) (meaning table.new) self.new.inner }
+        ensures { Performed (T.meaning table.old) self.old.inner (Abort worker) (told result) (T.meaning table.new) self.new.inner }
     {
         match self.seat(worker) {
             Ok(seat) => self
@@ -159,7 +159,7 @@ impl Crew {
         table: &mut T,
         worker: u64,
     ) -> Result<u64, Refusal>
-        ensures { Performed (meaning table.old) self.old.inner (Commit worker) (told result) (meaning table.new) self.new.inner }
+        ensures { Performed (T.meaning table.old) self.old.inner (Commit worker) (told result) (T.meaning table.new) self.new.inner }
     {
         match self.seat(worker) {
             Ok(seat) => match self

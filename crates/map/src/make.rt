@@ -40,7 +40,7 @@ impl<'t, T: VersionTable> PlateMap<'t, T> {
         table: &'t mut T,
         workers: u64,
     ) -> Result<PlateMap<'t, T>, AllocError>
-        ensures { IfOk result (λ m. Cleared (meaning table.old) (meaning m.table.now) × (plate (meaning m.table.now) m.crew.inner ≡ new_map workers (meaning table.old).cells)) }
+        ensures { IfOk result (λ m. Cleared (T.meaning table.old) (T.meaning m.table.now) × (plate (T.meaning m.table.now) m.crew.inner ≡ new_map workers (T.meaning table.old).cells)) }
     {
         let crew = Crew::new(heap, workers)?;
         table.clear();

@@ -10,7 +10,7 @@ use words::Refusal;
 
 impl<'t, T: VersionTable> PlateMap<'t, T> {
     fn dispatch(&mut self, call: Call) -> Result<u64, Refusal>
-        ensures { Performed (meaning self.old.table.now) self.old.crew.inner call (told result) (meaning self.new.table.now) self.new.crew.inner }
+        ensures { Performed (T.meaning self.old.table.now) self.old.crew.inner call (told result) (T.meaning self.new.table.now) self.new.crew.inner }
     {
         match call {
             Call::Begin { worker, units } => self.begin(worker, units),
@@ -39,8 +39,8 @@ impl<'t, T: VersionTable> PlateMap<'t, T> {
     // Performs a call. A run followed by it is the run longer by the call's event, so the law holds of every
     // list of calls, however each was chosen.
     pub(crate) fn perform(&mut self, call: Call) -> Result<u64, Refusal>
-        ensures performed { Performed (meaning self.old.table.now) self.old.crew.inner call (told result) (meaning self.new.table.now) self.new.crew.inner }
-        ensures longer { Longer (meaning self.old.table.now) self.old.crew.inner call (told result) (meaning self.new.table.now) self.new.crew.inner }
+        ensures performed { Performed (T.meaning self.old.table.now) self.old.crew.inner call (told result) (T.meaning self.new.table.now) self.new.crew.inner }
+        ensures longer { Longer (T.meaning self.old.table.now) self.old.crew.inner call (told result) (T.meaning self.new.table.now) self.new.crew.inner }
     {
         self.dispatch(call)
     }

@@ -19,7 +19,7 @@ impl<'t, T: VersionTable> PlateMap<'t, T> {
         heap: Global,
         calls: &[Call],
     ) -> Result<Vec<Result<u64, Refusal>>, AllocError>
-        ensures { IfOk result (λ v. (length v.items ≡ length calls.now) × ((workers cells : ℕ) (es : List Event) → Run workers cells es (meaning self.old.table.now) (plate (meaning self.old.table.now) self.old.crew.inner) → Run workers cells (with_events calls.now v.items es) (meaning self.new.table.now) (plate (meaning self.new.table.now) self.new.crew.inner))) }
+        ensures { IfOk result (λ v. (length v.items ≡ length calls.now) × ((workers cells : ℕ) (es : List Event) → Run workers cells es (T.meaning self.old.table.now) (plate (T.meaning self.old.table.now) self.old.crew.inner) → Run workers cells (with_events calls.now v.items es) (T.meaning self.new.table.now) (plate (T.meaning self.new.table.now) self.new.crew.inner))) }
     {
         let mut answers = Vec::with_capacity(heap, calls.len())?;
         for call in calls {
@@ -37,7 +37,7 @@ impl<'t, T: VersionTable> PlateMap<'t, T> {
         workers: u64,
         calls: &[Call],
     ) -> Result<Ran<'t, T>, AllocError>
-        ensures { IfOk result (λ x. Upheld workers (meaning table.old).cells calls.now x.answers.items (meaning x.map.table.now) x.map.crew.inner) }
+        ensures { IfOk result (λ x. Upheld workers (T.meaning table.old).cells calls.now x.answers.items (T.meaning x.map.table.now) x.map.crew.inner) }
     {
         let mut map = PlateMap::new(heap, table, workers)?;
         let answers = map.perform_all(heap, calls)?;

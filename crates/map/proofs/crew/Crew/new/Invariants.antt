@@ -4,4 +4,4 @@ use Rattle.workers.specs.Shape.{shape}
 use Rattle.map.proofs.crew.Crew.new.Given as goal
 
 abbrev pub invariant-loop-n : goal.invariant-loop-n
-invariant-loop-n l = (map shape (vec_items l.workers) ≡ replicate l.-n new_worker) × (vec_len l.workers ≡ l.-n)
+invariant-loop-n l = (map shape (vec_items l.workers) ≡ replicate l._n new_worker) × (vec_len l.workers ≡ l._n)
