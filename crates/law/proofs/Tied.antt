@@ -17,7 +17,7 @@ use Rattle.rules.specs.Stamps.{last_stamp}
 use Rattle.rules.specs.Rules.{Step, to_install, to_stamp, next_step, ended_all, outcome}
 use Rattle.rules.proofs.Marked.{all_marked}
 use Rattle.rules.proofs.Ways.{every_way}
-use Rattle.rules.specs.Beneath.{marks, for_step, if_sealed, cut_at, Steps, Beneath}
+use Rattle.rules.specs.Beneath.{marks, for_step, calls_if_sealed, cut_at, Steps, Beneath}
 
 -- a table with the cells and the lists of a model
 pub record Tied (t : Table) (m : Model) : Type 0 where
@@ -40,11 +40,11 @@ module _ (t : Table) (m : Model) (tied : Tied t m) where
       subst (λ (z : Table). Tied z (with_list m c (f (m.lists c)))) (sym e) (record { cells = o.cells ∙ tied.cells; versions = o.versions ∙ ap (λ (ls : ℕ → List Version). put ls c (f (ls c))) tied.versions })
 
   -- the calls of a worker in a known stage, and of a known step
-  calls_in : (w : ℕ) (g : Stage) → (m.worker w).stage ≡ g → (f : List ReadEntry → List WriteEntry → ℕ → List TableCall) (u : Table) → Steps t (if_sealed (m.worker w).stage f) u → Steps t (if_sealed g f) u
-  calls_in w g was f u h = subst (λ g. Steps t (if_sealed g f) u) was h
+  calls_in : (w : ℕ) (g : Stage) → (m.worker w).stage ≡ g → (f : List ReadEntry → List WriteEntry → ℕ → List TableCall) (u : Table) → Steps t (calls_if_sealed (m.worker w).stage f) u → Steps t (calls_if_sealed g f) u
+  calls_in w g was f u h = subst (λ g. Steps t (calls_if_sealed g f) u) was h
 
   step_is : (w : ℕ) (rs : List ReadEntry) (ws : List WriteEntry) (k : ℕ) → (m.worker w).stage ≡ sealed rs ws k → (step : Step) → next_step rs ws k ≡ step → (u : Table)
-      → Steps t (if_sealed (m.worker w).stage (λ rs ws k. for_step (last_stamp m w) (next_step rs ws k))) u → Steps t (for_step (last_stamp m w) step) u
+      → Steps t (calls_if_sealed (m.worker w).stage (λ rs ws k. for_step (last_stamp m w) (next_step rs ws k))) u → Steps t (for_step (last_stamp m w) step) u
   step_is w rs ws k was step is u h = subst (λ step. Steps t (for_step (last_stamp m w) step) u) is (calls_in w (sealed rs ws k) was (λ rs ws k. for_step (last_stamp m w) (next_step rs ws k)) u h)
 
   ending : (how : Ending) (w : ℕ) (vs : List WriteEntry) (u : Table) → Steps t (marks how (last_stamp m w) vs) u → (u.cells ≡ m.cells) × (u.versions ≡ ended_all how m.cells (last_stamp m w) m.lists vs)

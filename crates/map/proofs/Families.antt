@@ -9,7 +9,8 @@ use Rattle.rules.specs.declared.call.Call.TheVariants.{Sync, Seal, Write, Read, 
 use Rattle.rules.specs.Model.{Worker, with_commits}
 use Rattle.rules.specs.Search.{newest_below, search}
 use Rattle.rules.specs.Stamps.{floor, keep_line}
-use Rattle.rules.specs.Turns.{Came, Lists, at_worker, at_both, tick, begin_by, pulse_by, install_by, stamp_by, check_by, sync_by, read_by, write_by, commit_by, abort_by, counting, one_more, look_by, close_by, seal_by, with_a_worker, with_a_cell, in_place}
+use Rattle.rules.specs.Rules.{with_a_worker, with_a_cell}
+use Rattle.rules.specs.Turns.{Came, Lists, at_worker, at_both, tick_by, begin_by, pulse_by, install_by, stamp_by, check_by, sync_by, read_by, write_by, commit_by, abort_by, counting, one_more, look_by, close_by, seal_by, in_place}
 use Rattle.rules.specs.Beneath.{Steps, StepsUpon, step_calls, commit_calls, abort_calls, cut_at}
 use Rattle.workers.specs.declared.worker.Worker.{Worker as Place}
 use Rattle.workers.specs.declared.clock.Tick.{Tick}
@@ -33,7 +34,7 @@ module _ (t u : Table) (i : Inner) (w : ℕ) (x y : Place) (within : w < i.count
   alone : (f : Worker → Came Worker) → (a, shape y) ≡ f (shape x) → (a, plate t j) ≡ at_worker (plate t i) w f
   alone f h = ap (λ m. (a, m)) (changed t) ∙ lifted t u xs i.count i.commits w x y within places is a f h
 
-  pub tick_performed : (call : Tick) (units : ℕ) → (a, shape y) ≡ tick (stage_after call) w units (shape x) → Performed t i (tick_call call w units) a t j
+  pub tick_performed : (call : Tick) (units : ℕ) → (a, shape y) ≡ tick_by (stage_after call) w units (shape x) → Performed t i (tick_call call w units) a t j
   tick_performed Begins units h = performed t t i j _ a (alone (begin_by w units) h) (none_beneath t a)
   tick_performed Pulses units h = performed t t i j _ a (alone (pulse_by w units) h) (none_beneath t a)
 

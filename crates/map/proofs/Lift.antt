@@ -7,8 +7,8 @@ use Rattle.tables.specs.declared.call.TableCall.{TableCall}
 use Rattle.tables.proofs.Reaches.{step_cells}
 use Rattle.rules.specs.declared.call.Call.{Call}
 use Rattle.rules.specs.Model.{Worker, Model, new_worker, new_map, workers_of}
-use Rattle.rules.specs.Rules.{Done, outcome}
-use Rattle.rules.specs.Turns.{Came, Lists, deny, in_place, in_both, with_a_worker, at_worker, at_both, turn_outcome}
+use Rattle.rules.specs.Rules.{Done, outcome, with_a_worker}
+use Rattle.rules.specs.Turns.{Came, Lists, deny_by, in_place, in_both, at_worker, at_both, turn_outcome}
 use Rattle.rules.specs.Beneath.{Steps, StepsUpon, beneath, Beneath}
 use Rattle.rules.proofs.Refusals.{refused_unchanged}
 use Rattle.rules.proofs.Same.{same_outcome}
@@ -51,7 +51,7 @@ abbrev pub over : Table → List Place → ℕ → ℕ → Model
 over t xs n m = record { workers = n; worker = seated xs; cells = t.cells; lists = t.versions; commits = m }
 
 -- no such worker
-pub no_worker : (m : Model) (w : ℕ) (d : Done) → m.workers ≤ w → deny NoWorker m ≡ with_a_worker m w d
+pub no_worker : (m : Model) (w : ℕ) (d : Done) → m.workers ≤ w → deny_by NoWorker m ≡ with_a_worker m w d
 no_worker m w d le = rw (le-ltb w m.workers le)
 
 module _ (t u : Table) (xs : List Place) (n m w : ℕ) (x y : Place) (within : w < n) (places : w < length xs) (is : x ≡ get_or xs w x) (a : Outcome ℕ) where

@@ -32,21 +32,21 @@ for_step s (to_check_write e) = []
 for_step s finished = []
 
 -- what a sealed pass calls, by its sets and its steps done; other workers call nothing
-abbrev pub if_sealed : Stage → (List ReadEntry → List WriteEntry → ℕ → List TableCall) → List TableCall
-if_sealed idle f = []
-if_sealed (open' rs ws) f = []
-if_sealed (sealed rs ws k) f = f rs ws k
-if_sealed (looking l) f = []
+abbrev pub calls_if_sealed : Stage → (List ReadEntry → List WriteEntry → ℕ → List TableCall) → List TableCall
+calls_if_sealed idle f = []
+calls_if_sealed (open' rs ws) f = []
+calls_if_sealed (sealed rs ws k) f = f rs ws k
+calls_if_sealed (looking l) f = []
 
 -- the calls of the worker x, numbered w: of its next step, of its commit, of its abort
 abbrev pub step_calls : ℕ → Worker → List TableCall
-step_calls w x = if_sealed x.stage (λ rs ws k. for_step (pass_stamp x w) (next_step rs ws k))
+step_calls w x = calls_if_sealed x.stage (λ rs ws k. for_step (pass_stamp x w) (next_step rs ws k))
 
 abbrev pub commit_calls : ℕ → Worker → List TableCall
-commit_calls w x = if_sealed x.stage (λ rs ws k. marks Commits' (pass_stamp x w) ws)
+commit_calls w x = calls_if_sealed x.stage (λ rs ws k. marks Commits' (pass_stamp x w) ws)
 
 abbrev pub abort_calls : ℕ → Worker → List TableCall
-abort_calls w x = if_sealed x.stage (λ rs ws k. marks Aborts' (pass_stamp x w) (take (min k (length ws)) ws))
+abort_calls w x = calls_if_sealed x.stage (λ rs ws k. marks Aborts' (pass_stamp x w) (take (min k (length ws)) ws))
 
 -- a cut at the version that was found
 abbrev pub cut_at : ℕ → Outcome Version → List TableCall

@@ -13,8 +13,8 @@ use Rattle.rules.specs.declared.entry.ReadEntry.{ReadEntry}
 use Rattle.rules.specs.declared.entry.WriteEntry.{WriteEntry}
 use Rattle.rules.specs.Model.{sealed, Worker}
 use Rattle.rules.specs.Rules.{steps}
-use Rattle.rules.specs.Turns.{Came, Lists, accept, deny, if_sealed, pass_stamp, at_rest, ends, commit_by, abort_in, abort_by}
-use Rattle.rules.specs.Beneath.{marks, if_sealed as calls_if_sealed, Steps, commit_calls, abort_calls}
+use Rattle.rules.specs.Turns.{Came, Lists, accept_by, deny_by, if_sealed_by, pass_stamp, at_rest, ends, commit_by, abort_in_by, abort_by}
+use Rattle.rules.specs.Beneath.{marks, calls_if_sealed, Steps, commit_calls, abort_calls}
 use Rattle.rules.proofs.Marked.{all_marked}
 
 -- the entry at a place that the set has not
@@ -33,18 +33,18 @@ marks_done how s ws i t le = subst (λ es. Steps t (marks how s es) t) (sym (dro
 
 -- a pass whose writes were marked
 module _ (t u : Table) (w : ℕ) (x : Worker) (rs : List ReadEntry) (ws : List WriteEntry) where
-  ended : (how : Ending) (boost : ℕ) (vs : List WriteEntry) (n : ℕ) → Steps t (marks how (pass_stamp x w) vs) u → (accepted n, (at_rest boost x, u.versions)) ≡ accept n (ends how boost t w vs x)
+  ended : (how : Ending) (boost : ℕ) (vs : List WriteEntry) (n : ℕ) → Steps t (marks how (pass_stamp x w) vs) u → (accepted n, (at_rest boost x, u.versions)) ≡ accept_by n (ends how boost t w vs x)
   ended how boost vs n done = λ i. (accepted n, (at_rest boost x, (all_marked how (pass_stamp x w) vs t u done).1 i))
 
   pub committed : (k s : ℕ) → x.stage ≡ sealed rs ws k → k ≡ steps rs ws → s ≡ pass_stamp x w → Steps t (marks Commits' s ws) u
       → ((accepted s, (at_rest 0 x, u.versions)) ≡ commit_by t w x) × Steps t (commit_calls w x) u
   committed k s was all stamp Marked-All = (
-    (λ i. (accepted (stamp i), (at_rest 0 x, u.versions))) ∙ ended Commits' 0 ws (pass_stamp x w) done ∙ sym (ap (λ g. if_sealed g (x, t.versions) next) was ∙ rw (eq-eqb k (steps rs ws) all)),
+    (λ i. (accepted (stamp i), (at_rest 0 x, u.versions))) ∙ ended Commits' 0 ws (pass_stamp x w) done ∙ sym (ap (λ g. if_sealed_by g (x, t.versions) next) was ∙ rw (eq-eqb k (steps rs ws) all)),
     subst (λ g. Steps t (calls_if_sealed g (λ rs ws k. marks Commits' (pass_stamp x w) ws)) u) (sym was) done,
   )
     where
       next : List ReadEntry → List WriteEntry → ℕ → Came (Worker × Lists)
-      next rs ws k = cond (eqb k (steps rs ws)) (accept (pass_stamp x w) (ends Commits' 0 t w ws x)) (deny OutOfTurn (x, t.versions))
+      next rs ws k = cond (eqb k (steps rs ws)) (accept_by (pass_stamp x w) (ends Commits' 0 t w ws x)) (deny_by OutOfTurn (x, t.versions))
 
       done : Steps t (marks Commits' (pass_stamp x w) ws) u
       done = subst (λ s. Steps t (marks Commits' s ws) u) stamp Marked-All
@@ -52,7 +52,7 @@ module _ (t u : Table) (w : ℕ) (x : Worker) (rs : List ReadEntry) (ws : List W
   pub aborted : (k n s : ℕ) → x.stage ≡ sealed rs ws k → n ≡ min k (length ws) → s ≡ pass_stamp x w → Steps t (marks Aborts' s (take n ws)) u
       → ((accepted n, (at_rest 10 x, u.versions)) ≡ abort_by t w x) × Steps t (abort_calls w x) u
   aborted k n s was size stamp done = (
-    (λ i. (accepted (size i), (at_rest 10 x, u.versions))) ∙ ended Aborts' 10 (take (min k (length ws)) ws) (min k (length ws)) all ∙ sym (ap (λ g. abort_in g t w x) was),
+    (λ i. (accepted (size i), (at_rest 10 x, u.versions))) ∙ ended Aborts' 10 (take (min k (length ws)) ws) (min k (length ws)) all ∙ sym (ap (λ g. abort_in_by g t w x) was),
     subst (λ g. Steps t (calls_if_sealed g (λ rs ws k. marks Aborts' (pass_stamp x w) (take (min k (length ws)) ws))) u) (sym was) all,
   )
     where

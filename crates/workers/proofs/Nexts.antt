@@ -13,8 +13,8 @@ use Rattle.rules.specs.declared.entry.WriteEntry.{WriteEntry}
 use Rattle.rules.specs.Model.{sealed, Worker}
 use Rattle.rules.specs.Search.{visible, search}
 use Rattle.rules.specs.Rules.{gone, Step, to_install, to_stamp, to_check_read, to_check_write, step_write, step_read, steps, next_step}
-use Rattle.rules.specs.Turns.{Came, accept, deny, upon, pass_stamp, if_sealed, steps_left, one_on, install_step, install_by, stamp_step, stamp_by, check_step, check_by}
-use Rattle.rules.specs.Beneath.{for_step, if_sealed as calls_if_sealed, step_calls, Steps, StepsUpon}
+use Rattle.rules.specs.Turns.{Came, accept_by, deny_by, upon_by, pass_stamp, if_sealed_by, steps_left, one_on, install_step_by, install_by, stamp_step_by, stamp_by, check_step_by, check_by}
+use Rattle.rules.specs.Beneath.{for_step, calls_if_sealed, step_calls, Steps, StepsUpon}
 use Rattle.searches.proofs.Places.{nth_at}
 
 module _ (rs : List ReadEntry) (ws : List WriteEntry) (k : ℕ) where
@@ -38,28 +38,28 @@ module _ (t : Table) (w : ℕ) (x : Worker) (rs : List ReadEntry) (ws : List Wri
   calls_are : (s : Step) → next_step rs ws k ≡ s → step_calls w x ≡ for_step (pass_stamp x w) s
   calls_are s is = ap (λ g. calls_if_sealed g (λ rs ws k. for_step (pass_stamp x w) (next_step rs ws k))) was ∙ ap (for_step (pass_stamp x w)) is
 
-  install_is : (s : Step) → next_step rs ws k ≡ s → install_by t w x ≡ install_step s t w rs ws k x
-  install_is s is = ap (λ g. if_sealed g (x, t.versions) (λ rs ws k. install_step (next_step rs ws k) t w rs ws k x)) was ∙ ap (λ s. install_step s t w rs ws k x) is
+  install_is : (s : Step) → next_step rs ws k ≡ s → install_by t w x ≡ install_step_by s t w rs ws k x
+  install_is s is = ap (λ g. if_sealed_by g (x, t.versions) (λ rs ws k. install_step_by (next_step rs ws k) t w rs ws k x)) was ∙ ap (λ s. install_step_by s t w rs ws k x) is
 
-  stamp_is : (s : Step) → next_step rs ws k ≡ s → stamp_by t w x ≡ stamp_step s t w rs ws k x
-  stamp_is s is = ap (λ g. if_sealed g (x, t.versions) (λ rs ws k. stamp_step (next_step rs ws k) t w rs ws k x)) was ∙ ap (λ s. stamp_step s t w rs ws k x) is
+  stamp_is : (s : Step) → next_step rs ws k ≡ s → stamp_by t w x ≡ stamp_step_by s t w rs ws k x
+  stamp_is s is = ap (λ g. if_sealed_by g (x, t.versions) (λ rs ws k. stamp_step_by (next_step rs ws k) t w rs ws k x)) was ∙ ap (λ s. stamp_step_by s t w rs ws k x) is
 
-  check_is : (s : Step) → next_step rs ws k ≡ s → check_by t w x ≡ check_step s t w rs ws k x
-  check_is s is = ap (λ g. if_sealed g x (λ rs ws k. check_step (next_step rs ws k) t w rs ws k x)) was ∙ ap (λ s. check_step s t w rs ws k x) is
+  check_is : (s : Step) → next_step rs ws k ≡ s → check_by t w x ≡ check_step_by s t w rs ws k x
+  check_is s is = ap (λ g. if_sealed_by g x (λ rs ws k. check_step_by (next_step rs ws k) t w rs ws k x)) was ∙ ap (λ s. check_step_by s t w rs ws k x) is
 
   -- a step that the table took, with its list
   pub installed : (u : Table) (e : WriteEntry) (y : Worker) (n a : ℕ) → next_step rs ws k ≡ to_install e → n ≡ steps_left rs ws k → y ≡ one_on x rs ws k
       → accepted a ≡ insert_answer t e.cell (pass_stamp x w) → Inserted t u e.cell (pass_stamp x w) e.value
       → ((accepted n, (y, u.versions)) ≡ install_by t w x) × StepsUpon t (accepted n) (step_calls w x) u
   installed u e y n a is en ey ok made = (
-    (λ i. (accepted (en i), (ey i, made.only.versions i))) ∙ ap (λ o. upon o (x, t.versions) (λ _. accept (steps_left rs ws k) (one_on x rs ws k, put t.versions e.cell (with_version (new_version (pass_stamp x w) e.value) (t.versions e.cell))))) ok ∙ sym (install_is (to_install e) is),
+    (λ i. (accepted (en i), (ey i, made.only.versions i))) ∙ ap (λ o. upon_by o (x, t.versions) (λ _. accept_by (steps_left rs ws k) (one_on x rs ws k, put t.versions e.cell (with_version (new_version (pass_stamp x w) e.value) (t.versions e.cell))))) ok ∙ sym (install_is (to_install e) is),
     subst (λ calls. Steps t calls u) (sym (calls_are (to_install e) is)) (u, subst (λ o. Upon o (Inserted t u e.cell (pass_stamp x w) e.value) (u ≡ t)) ok made, refl),
   )
 
   pub not_installed : (u : Table) (e : WriteEntry) (r : Refusal) → next_step rs ws k ≡ to_install e → refuse r ≡ insert_answer t e.cell (pass_stamp x w) → u ≡ t
       → ((refuse r, (x, u.versions)) ≡ install_by t w x) × (u ≡ t)
   not_installed u e r is no' same = (
-    (λ i. (refuse r, (x, (same i).versions))) ∙ ap (λ o. upon o (x, t.versions) (λ _. accept (steps_left rs ws k) (one_on x rs ws k, put t.versions e.cell (with_version (new_version (pass_stamp x w) e.value) (t.versions e.cell))))) no' ∙ sym (install_is (to_install e) is),
+    (λ i. (refuse r, (x, (same i).versions))) ∙ ap (λ o. upon_by o (x, t.versions) (λ _. accept_by (steps_left rs ws k) (one_on x rs ws k, put t.versions e.cell (with_version (new_version (pass_stamp x w) e.value) (t.versions e.cell))))) no' ∙ sym (install_is (to_install e) is),
     same,
   )
 
@@ -67,23 +67,23 @@ module _ (t : Table) (w : ℕ) (x : Worker) (rs : List ReadEntry) (ws : List Wri
       → accepted a ≡ raise_answer t e.cell e.stamp → Altered t u e.cell e.stamp (raised (pass_stamp x w))
       → ((accepted n, (y, u.versions)) ≡ stamp_by t w x) × StepsUpon t (accepted n) (step_calls w x) u
   raised_one u e y n a is en ey ok made = (
-    (λ i. (accepted (en i), (ey i, made.only.versions i))) ∙ ap (λ o. upon (gone o) (x, t.versions) (λ _. accept (steps_left rs ws k) (one_on x rs ws k, put t.versions e.cell (at_stamp e.stamp (raised (pass_stamp x w)) (t.versions e.cell))))) ok ∙ sym (stamp_is (to_stamp e) is),
+    (λ i. (accepted (en i), (ey i, made.only.versions i))) ∙ ap (λ o. upon_by (gone o) (x, t.versions) (λ _. accept_by (steps_left rs ws k) (one_on x rs ws k, put t.versions e.cell (at_stamp e.stamp (raised (pass_stamp x w)) (t.versions e.cell))))) ok ∙ sym (stamp_is (to_stamp e) is),
     subst (λ calls. Steps t calls u) (sym (calls_are (to_stamp e) is)) (u, subst (λ o. Upon o (Altered t u e.cell e.stamp (raised (pass_stamp x w))) (u ≡ t)) ok made, refl),
   )
 
   pub not_raised : (u : Table) (e : ReadEntry) (r q : Refusal) → next_step rs ws k ≡ to_stamp e → refuse r ≡ raise_answer t e.cell e.stamp → refuse q ≡ gone (refuse r) → u ≡ t
       → ((refuse q, (x, u.versions)) ≡ stamp_by t w x) × (u ≡ t)
   not_raised u e r q is no' lost same = (
-    (λ i. (refuse q, (x, (same i).versions))) ∙ ap (λ o. upon o (x, t.versions) (λ _. accept (steps_left rs ws k) (one_on x rs ws k, put t.versions e.cell (at_stamp e.stamp (raised (pass_stamp x w)) (t.versions e.cell))))) (lost ∙ ap gone no') ∙ sym (stamp_is (to_stamp e) is),
+    (λ i. (refuse q, (x, (same i).versions))) ∙ ap (λ o. upon_by o (x, t.versions) (λ _. accept_by (steps_left rs ws k) (one_on x rs ws k, put t.versions e.cell (at_stamp e.stamp (raised (pass_stamp x w)) (t.versions e.cell))))) (lost ∙ ap gone no') ∙ sym (stamp_is (to_stamp e) is),
     same,
   )
 
   -- a check, by what its search found
   abbrev pub CheckRead : ReadEntry → Outcome Version → Came Worker
-  CheckRead e o = upon o x (λ v. cond (eqb v.write e.stamp) (accept (steps_left rs ws k) (one_on x rs ws k)) (deny Changed x))
+  CheckRead e o = upon_by o x (λ v. cond (eqb v.write e.stamp) (accept_by (steps_left rs ws k) (one_on x rs ws k)) (deny_by Changed x))
 
   abbrev pub CheckWrite : WriteEntry → Outcome Version → Came Worker
-  CheckWrite e o = upon o x (λ v. cond (ltb (pass_stamp x w) v.read) (deny ReadLater x) (accept (steps_left rs ws k) (one_on x rs ws k)))
+  CheckWrite e o = upon_by o x (λ v. cond (ltb (pass_stamp x w) v.read) (deny_by ReadLater x) (accept_by (steps_left rs ws k) (one_on x rs ws k)))
 
   pub checked_read : (e : ReadEntry) (o : Outcome Version) → next_step rs ws k ≡ to_check_read e → o ≡ search (visible (pass_stamp x w)) t e.cell → CheckRead e o ≡ check_by t w x
   checked_read e o is seen = ap (CheckRead e) seen ∙ sym (check_is (to_check_read e) is)

@@ -1,7 +1,7 @@
 // begin, pulse and sync: the calls that move a worker's clock.
 ghost use Rattle.std.specs.Prelude.{◌≡◌};
 ghost use Rattle.words.specs.Outcome.{told, accepted};
-ghost use Rattle.rules.specs.Turns.{tick, sync_by};
+ghost use Rattle.rules.specs.Turns.{sync_by, tick_by};
 ghost use Rattle.workers.specs.Shape.{shape, stage_after};
 
 use crate::seat::Seat;
@@ -24,7 +24,7 @@ pub enum Tick {
 impl Worker {
     // Adds the elapsed units to the clock and answers the new timestamp; begin opens a pass.
     pub fn tick(&mut self, seat: Seat, call: Tick, units: u64) -> Result<u64, Refusal>
-        ensures { (told result, shape self.new) ≡ tick (stage_after call) seat.number units (shape self.old) }
+        ensures { (told result, shape self.new) ≡ tick_by (stage_after call) seat.number units (shape self.old) }
     {
         let clock = self.clock + units.min(LONGEST).max(1);
         let adjusted = (clock + self.boost).max(self.last + 1);

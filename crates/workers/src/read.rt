@@ -2,7 +2,7 @@
 ghost use Rattle.std.specs.Prelude.{◌≡◌};
 ghost use Rattle.words.specs.Outcome.{told};
 ghost use Rattle.rules.specs.Search.{visible, search};
-ghost use Rattle.rules.specs.Turns.{read_by, read_new, pass_stamp};
+ghost use Rattle.rules.specs.Turns.{read_by, read_new_by, pass_stamp};
 ghost use Rattle.workers.specs.declared.stage.Stage.TheVariants.{Open};
 ghost use Rattle.workers.specs.Shape.{shape};
 
@@ -30,7 +30,7 @@ impl Worker {
         cell: u64,
     ) -> Result<u64, Refusal>
         requires { self.old.stage ≡ Open }
-        ensures { (told result, shape self.new) ≡ read_new cell self.old.reads.items self.old.writes.items (search (visible (pass_stamp (shape self.old) seat.number)) (T.meaning table.now) cell) (shape self.old) }
+        ensures { (told result, shape self.new) ≡ read_new_by cell self.old.reads.items self.old.writes.items (search (visible (pass_stamp (shape self.old) seat.number)) (T.meaning table.now) cell) (shape self.old) }
     {
         if self.reads.len() >= 16 {
             return Err(Refusal::SetFull);
