@@ -70,11 +70,11 @@ module _ (s : State) (line : ℕ) (inv : Inv s line) (t : ℕ) (P : Progress) (r
   committed_on : (c w v : ℕ) → committed s c w ≡ Some v → committed (left s t next at) c w ≡ Some v
   committed_on c w v h = committed_apart c w (λ e. not_yet c v (subst (λ w. committed s c w ≡ Some v) e h)) ∙ h
 
-  module _ (New_is : (Q : Progress) → next ≡ Some Q → (Q ≡ full_of P) × (P.k ≡ 2 * (W P + R P))) (over : ended how ≡ Pending → ⊥)
+  module _ (new_is : (Q : Progress) → next ≡ Some Q → (Q ≡ full_of P) × (P.k ≡ 2 * (W P + R P))) (over : ended how ≡ Pending → ⊥)
       (yes : (c : ℕ) (x : Version) → s.at c t ≡ Some x → ended how ≡ Committed → committed_by next c ≡ Some x.value)
       (gives : (c v : ℕ) → committed_by next c ≡ Some v → (ended how ≡ Committed) × ((x : Version) × (s.at c t ≡ Some x))) where
     pass_left : (u : ℕ) (Q : Progress) → (left s t next at).pass u ≡ Some Q → ((u ≡ t) × (Q ≡ full_of P) × (P.k ≡ 2 * (W P + R P))) ⊎ ((u ≡ t → ⊥) × (s.pass u ≡ Some Q))
-    pass_left u Q h = ⊎_elim (λ a. let n = New_is Q a.1 in inl (a.0, n.0, n.1)) (λ a. inr a) (put_cases s.pass t next u Q h)
+    pass_left u Q h = ⊎_elim (λ a. let n = new_is Q a.1 in inl (a.0, n.0, n.1)) (λ a. inr a) (put_cases s.pass t next u Q h)
 
     -- who runs afterwards ran before, under another stamp
     runs_left : (u : ℕ) (Q : Progress) → Runs (left s t next at) u Q → (u ≡ t → ⊥) × Runs s u Q

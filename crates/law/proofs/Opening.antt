@@ -36,12 +36,12 @@ module _ (m : Model) (h : History) (good : Good m h) (w : ℕ) (within : w < m.w
       → ((j : ℕ) (g : ReadEntry) → nth rs j ≡ Some g → (g.stamp < timestamp x.last w) × (committed (state m good.pass) g.cell g.stamp ≡ Some g.value))
       → (ops : List Op) → d ≡ in_pass (record { stamp = timestamp x.last w; ops = ops }) false → Local ops rs ws
       → Good (with_worker m w x) (with_doing h doing last)
-  opening x doing last d rs ws shape to-doing to_last later spent same before unseen apart sources ops is local =
+  opening x doing last d rs ws shape to_doing to_last later spent same before unseen apart sources ops is local =
       keeps m h good (with_worker m w x) (with_doing h doing last) w x d (put good.pass t (Some P)) (record {
         workers = refl;
         within = within;
         worker = puts m.worker w x;
-        doing = to-doing;
+        doing = to_doing;
         last = to_last;
         later = later;
         spent = spent;

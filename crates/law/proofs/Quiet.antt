@@ -52,11 +52,11 @@ module _ (m : Model) (h : History) (good : Good m h) (w : ℕ) (within : w < m.w
       → ((P : Progress) → good.pass (timestamp x.last w) ≡ Some P → P.ended ≡ false → View x.stage P)
       → ((f : ℕ) → x.stage ≡ looking f → ((m.worker w).stage ≡ looking f) ⊎ ((keep_line m ≤ f) × (0 < f) × ((v : ℕ) → v < m.workers → f ≤ last_stamp m v)))
       → Good (with_workers m worker) (with_doing h doing last)
-  quiet worker doing last x d to-worker to-doing to_last later spent does same own looks = keeps m h good (with_workers m worker) (with_doing h doing last) w x d good.pass (record {
+  quiet worker doing last x d to_worker to_doing to_last later spent does same own looks = keeps m h good (with_workers m worker) (with_doing h doing last) w x d good.pass (record {
     workers = refl;
     within = within;
-    worker = to-worker;
-    doing = to-doing;
+    worker = to_worker;
+    doing = to_doing;
     last = to_last;
     later = later;
     spent = spent;
@@ -80,7 +80,7 @@ module _ (m : Model) (h : History) (good : Good m h) (w : ℕ) (within : w < m.w
       → ((P : Progress) → View (m.worker w).stage P → View x.stage P)
       → ((f : ℕ) → x.stage ≡ looking f → ((m.worker w).stage ≡ looking f) ⊎ ((keep_line m ≤ f) × (0 < f) × ((v : ℕ) → v < m.workers → f ≤ last_stamp m v)))
       → Good (with_workers m worker) (with_doing h doing h.last)
-  staying worker doing x d to-worker to-doing same does views looks = quiet worker doing h.last x d to-worker to-doing
+  staying worker doing x d to_worker to_doing same does views looks = quiet worker doing h.last x d to_worker to_doing
       (leaves h.last w (timestamp x.last w) (good.last w ∙ ap (λ a. timestamp a w) (sym same)))
       (omega arith) (let c = (good.clocks w).1 in omega arith)
       (subst (λ a. Does x.stage (timestamp a w) good.pass d) (sym same) does)

@@ -38,7 +38,7 @@ module _ (t u : Table) (w : ℕ) (x : Worker) (rs : List ReadEntry) (ws : List W
 
   pub committed : (k s : ℕ) → x.stage ≡ sealed rs ws k → k ≡ steps rs ws → s ≡ pass_stamp x w → Steps t (marks Commits' s ws) u
       → ((accepted s, (at_rest 0 x, u.versions)) ≡ commit_by t w x) × Steps t (commit_calls w x) u
-  committed k s was all stamp Marked-All = (
+  committed k s was all stamp marked_all = (
     (λ i. (accepted (stamp i), (at_rest 0 x, u.versions))) ∙ ended Commits' 0 ws (pass_stamp x w) done ∙ sym (ap (λ g. if_sealed_by g (x, t.versions) next) was ∙ rw (eq-eqb k (steps rs ws) all)),
     subst (λ g. Steps t (calls_if_sealed g (λ rs ws k. marks Commits' (pass_stamp x w) ws)) u) (sym was) done,
   )
@@ -47,7 +47,7 @@ module _ (t u : Table) (w : ℕ) (x : Worker) (rs : List ReadEntry) (ws : List W
       next rs ws k = cond (eqb k (steps rs ws)) (accept_by (pass_stamp x w) (ends Commits' 0 t w ws x)) (deny_by OutOfTurn (x, t.versions))
 
       done : Steps t (marks Commits' (pass_stamp x w) ws) u
-      done = subst (λ s. Steps t (marks Commits' s ws) u) stamp Marked-All
+      done = subst (λ s. Steps t (marks Commits' s ws) u) stamp marked_all
 
   pub aborted : (k n s : ℕ) → x.stage ≡ sealed rs ws k → n ≡ min k (length ws) → s ≡ pass_stamp x w → Steps t (marks Aborts' s (take n ws)) u
       → ((accepted n, (at_rest 10 x, u.versions)) ≡ abort_by t w x) × Steps t (abort_calls w x) u
