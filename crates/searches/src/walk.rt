@@ -13,18 +13,12 @@ use words::{Refusal, Version};
 pub fn search<T: VersionTable>(table: &T, cell: usize, sought: Sought) -> Result<Version, Refusal>
     ensures { told result ≡ search (looks_for sought) (T.meaning table.now) cell }
 {
-    for at in 0..usize::MAX {
-        match turn(table, cell, at, sought) {
-            Ok(Some(version)) => return Ok(version),
-            Ok(None) => {}
-            Err(refusal) => return Err(refusal),
+    for at in 0..=usize::MAX {
+        if let Some(version) = turn(table, cell, at, sought)? {
+            return Ok(version);
         }
     }
-    match turn(table, cell, usize::MAX, sought) {
-        Ok(Some(version)) => Ok(version),
-        Ok(None) => Err(Refusal::NoVersion),
-        Err(refusal) => Err(refusal),
-    }
+    Err(Refusal::NoVersion)
 }
 
 // One turn of a search: the version at a position, if it is the one that is sought.
