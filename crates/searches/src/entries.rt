@@ -1,6 +1,6 @@
 // Sets of entries that name a cell, and the one search of them all.
-ghost use Rattle.std.specs.Prelude.{◌≡◌, ℕ, ◌<◌, length, IfSome};
-ghost use Rattle.searches.specs.Place.{place};
+ghost use Rattle.std.specs.Prelude.{◌≡◌, ℕ, ◌<◌, ◌==◌, length, IfSome};
+ghost use Rattle.std.specs.List.{position};
 
 use rules::{ReadEntry, WriteEntry};
 
@@ -29,13 +29,8 @@ impl NamesCell for WriteEntry {
 
 // The position of the first entry for a cell.
 pub fn find<E: NamesCell>(entries: &[E], cell: u64) -> Option<usize>
-    ensures place { result ≡ place E.named cell 0 entries.now }
+    ensures place { result ≡ position (λ e. E.named e == cell) entries.now }
     ensures within { IfSome result (λ i. i < length entries.now) }
 {
-    for (i, entry) in entries.iter().enumerate() {
-        if entry.cell() == cell {
-            return Some(i);
-        }
-    }
-    None
+    entries.iter().position(|entry| entry.cell() == cell)
 }

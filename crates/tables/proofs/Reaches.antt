@@ -1,5 +1,5 @@
 -- From clear on, whatever calls are made, write stamps fall strictly along every list.
-use Rattle.std.proofs.Common.{◌≡◌, ℕ, true, false, List, Ok, Err, Result, sym, refl, ap, ◌∙◌, subst, ⊎_elim, arith, MatchResult}
+use Rattle.std.proofs.Common.{◌≡◌, ℕ, true, false, List, Ok, Err, Result, refl, ap, ◌∙◌, subst, ⊎_elim, arith, MatchResult}
 use mathlib.Core.Path.{subst⁻¹}
 use Rattle.std.proofs.lemmas.Bool.{cases_eq}
 use Rattle.std.proofs.lemmas.Bool.Decides.{nat_tests}
@@ -8,11 +8,10 @@ use Rattle.words.specs.declared.refusal.Refusal.{Refusal}
 use Rattle.words.specs.declared.version.Version.{Version}
 use Rattle.tables.specs.declared.call.TableCall.{TableCall}
 use Rattle.tables.specs.declared.call.TableCall.TheVariants.{Clear, Cells, FreePlaces, Length, Version as VersionAt, Insert, Raise, Mark, Cut as CutAt}
-use Rattle.tables.specs.declared.call.Answer.{Answer}
 use Rattle.words.specs.Version.{new_version}
 use Rattle.tables.specs.Versions.{holds, falls, raised, marked}
 use Rattle.tables.specs.Table.{Table, Cleared, Only, Inserted, Altered, Cut, put, insert_answer, raise_answer, mark_answer, cut_answer}
-use Rattle.tables.specs.Calls.{call_answer, Upon, Step, Reached, start, next, Strict}
+use Rattle.tables.specs.Calls.{Upon, Step, Reached, start, next, Strict}
 use Rattle.tables.proofs.Order.{falls_with, falls_at_stamp}
 use Rattle.tables.proofs.Cuts.{cut_keeps_falling}
 use Rattle.tables.proofs.Lengths.{put_here, put_other}
@@ -27,9 +26,9 @@ one_cell {t} {u} {c} {vs} only h strict q =
     (cases_eq q c)
 
 -- by the way in which a call came out
-upon : (o : Outcome ℕ) (P Q R : Type 0) → Upon o P Q → ((a : ℕ) → o ≡ accepted a → P → R) → (Q → R) → R
-upon (accepted a) P Q R h yes' no' = yes' a refl h
-upon (refused n d) P Q R h yes' no' = no' h
+upon : {P Q R : Type 0} (o : Outcome ℕ) → ((a : ℕ) → o ≡ accepted a → P → R) → (Q → R) → Upon o P Q → R
+upon (accepted a) yes' no' h = yes' a refl h
+upon (refused n d) yes' no' h = no' h
 
 -- an accepted insert names a stamp that is not there
 insert_new : (t : Table) (c s a : ℕ) → insert_answer t c s ≡ accepted a → holds s (t.versions c) ≡ false
@@ -48,33 +47,36 @@ step_strict t u (FreePlaces c) h strict = same_strict t u h strict
 step_strict t u (Length c) h strict = same_strict t u h strict
 step_strict t u (VersionAt c i) h strict = same_strict t u h strict
 step_strict t u (Insert c s x) h strict =
-    upon (insert_answer t c s) (Inserted t u c s x) (u ≡ t) (Strict u) h
-    (λ a e done. one_cell done.only (falls_with (new_version s x) (t.versions c) (insert_new t c s a e) (strict c)) strict)
-    (λ e. same_strict t u e strict)
+    upon (insert_answer t c s)
+    (λ a e (done : Inserted t u c s x). one_cell done.only (falls_with (new_version s x) (t.versions c) (insert_new t c s a e) (strict c)) strict)
+    (λ (e : u ≡ t). same_strict t u e strict) h
 step_strict t u (Raise c s r) h strict =
-    upon (raise_answer t c s) (Altered t u c s (raised r)) (u ≡ t) (Strict u) h
-    (λ a e done. one_cell done.only (falls_at_stamp s (raised r) (λ v. refl) (t.versions c) (strict c)) strict)
-    (λ e. same_strict t u e strict)
+    upon (raise_answer t c s)
+    (λ a e (done : Altered t u c s (raised r)). one_cell done.only (falls_at_stamp s (raised r) (λ v. refl) (t.versions c) (strict c)) strict)
+    (λ (e : u ≡ t). same_strict t u e strict) h
 step_strict t u (Mark c s k) h strict =
-    upon (mark_answer t c s) (Altered t u c s (marked k)) (u ≡ t) (Strict u) h
-    (λ a e done. one_cell done.only (falls_at_stamp s (marked k) (λ v. refl) (t.versions c) (strict c)) strict)
-    (λ e. same_strict t u e strict)
+    upon (mark_answer t c s)
+    (λ a e (done : Altered t u c s (marked k)). one_cell done.only (falls_at_stamp s (marked k) (λ v. refl) (t.versions c) (strict c)) strict)
+    (λ (e : u ≡ t). same_strict t u e strict) h
 step_strict t u (CutAt c s) h strict =
-    upon (cut_answer t c s) (Cut t u c s) (u ≡ t) (Strict u) h
-    (λ a e done. one_cell done.only (cut_keeps_falling s (t.versions c) (strict c)) strict)
-    (λ e. same_strict t u e strict)
+    upon (cut_answer t c s)
+    (λ a e (done : Cut t u c s). one_cell done.only (cut_keeps_falling s (t.versions c) (strict c)) strict)
+    (λ (e : u ≡ t). same_strict t u e strict) h
+
+same_cells : (t u : Table) → u ≡ t → u.cells ≡ t.cells
+same_cells t u e = rw e refl
 
 -- no call changes the number of cells
 pub step_cells : (t u : Table) (call : TableCall) → Step t call u → u.cells ≡ t.cells
 step_cells t u Clear h = h.cells
-step_cells t u Cells h = ap (λ (z : Table). z.cells) h
-step_cells t u (FreePlaces c) h = ap (λ (z : Table). z.cells) h
-step_cells t u (Length c) h = ap (λ (z : Table). z.cells) h
-step_cells t u (VersionAt c i) h = ap (λ (z : Table). z.cells) h
-step_cells t u (Insert c s x) h = upon (insert_answer t c s) (Inserted t u c s x) (u ≡ t) (u.cells ≡ t.cells) h (λ a e done. done.only.cells) (λ e. ap (λ (z : Table). z.cells) e)
-step_cells t u (Raise c s r) h = upon (raise_answer t c s) (Altered t u c s (raised r)) (u ≡ t) (u.cells ≡ t.cells) h (λ a e done. done.only.cells) (λ e. ap (λ (z : Table). z.cells) e)
-step_cells t u (Mark c s k) h = upon (mark_answer t c s) (Altered t u c s (marked k)) (u ≡ t) (u.cells ≡ t.cells) h (λ a e done. done.only.cells) (λ e. ap (λ (z : Table). z.cells) e)
-step_cells t u (CutAt c s) h = upon (cut_answer t c s) (Cut t u c s) (u ≡ t) (u.cells ≡ t.cells) h (λ a e done. done.only.cells) (λ e. ap (λ (z : Table). z.cells) e)
+step_cells t u Cells h = same_cells t u h
+step_cells t u (FreePlaces c) h = same_cells t u h
+step_cells t u (Length c) h = same_cells t u h
+step_cells t u (VersionAt c i) h = same_cells t u h
+step_cells t u (Insert c s x) h = upon (insert_answer t c s) (λ a e (done : Inserted t u c s x). done.only.cells) (same_cells t u) h
+step_cells t u (Raise c s r) h = upon (raise_answer t c s) (λ a e (done : Altered t u c s (raised r)). done.only.cells) (same_cells t u) h
+step_cells t u (Mark c s k) h = upon (mark_answer t c s) (λ a e (done : Altered t u c s (marked k)). done.only.cells) (same_cells t u) h
+step_cells t u (CutAt c s) h = upon (cut_answer t c s) (λ a e (done : Cut t u c s). done.only.cells) (same_cells t u) h
 
 -- the promise
 pub reached_strict : {t : Table} → Reached t → Strict t
@@ -85,9 +87,3 @@ reached_strict (next {t} {u} call r h) = step_strict t u call h (reached_strict 
 pub told_upon : (P Q : Type 0) (r : Result ℕ Refusal) (o : Outcome ℕ) → told r ≡ o → MatchResult r (λ _. P) (λ _. Q) → Upon o P Q
 told_upon P Q (Ok a) o e h = subst (λ (z : Outcome ℕ). Upon z P Q) e h
 told_upon P Q (Err x) o e h = subst (λ (z : Outcome ℕ). Upon z P Q) e h
-
--- all that is said of a call performed, from the call in one of its forms
-pub performed : (t u : Table) (k call : TableCall) (o : Outcome Answer) → call ≡ k → o ≡ call_answer t k → Step t k u → (o ≡ call_answer t call) × Step t call u × (Reached t → Strict u)
-performed t u k call o is a h =
-    let step = subst⁻¹ (λ (z : TableCall). Step t z u) is h in
-    (a ∙ ap (call_answer t) (sym is), step, λ r. reached_strict (next call r step))

@@ -1,3 +1,4 @@
 pub mod Versions
 pub mod Table
 pub mod Calls
+pub mod Shown

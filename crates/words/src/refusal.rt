@@ -1,9 +1,11 @@
 // Why a call is turned down. One list for the whole product, each case with its number; the
 // detail of a refusal is 0 but for `Wait` and `BadLine`.
-ghost use Rattle.std.specs.Prelude.{◌≡◌};
+ghost use Rattle.std.specs.Prelude.{◌≡◌, Some};
 ghost use Rattle.words.specs.Refusal.{number, detail, name};
 
-#[derive(Clone, Copy, PartialEq, Debug)]
+use std::fmt;
+
+#[derive(Clone, Copy, Debug, PartialEq, Eq)]
 pub enum Refusal {
     // 1: a worker is not below the map's count.
     NoWorker,
@@ -63,11 +65,14 @@ impl Refusal {
             _ => 0,
         }
     }
+}
 
-    pub fn name(self) -> &'static str
-        ensures { result.now ≡ name self }
-    {
-        match self {
+// The name of a refusal, without its detail.
+impl fmt::Display for Refusal {
+    ghost output = { λ e. Some (name e) };
+
+    fn fmt<W: fmt::Write>(&self, f: &mut fmt::Formatter<W>) -> fmt::Result {
+        f.write_str(match self {
             Refusal::NoWorker => "NO WORKER",
             Refusal::NoCell => "NO CELL",
             Refusal::OutOfTurn => "OUT OF TURN",
@@ -81,6 +86,6 @@ impl Refusal {
             Refusal::ReadLater => "READ LATER",
             Refusal::BadTarget => "BAD TARGET",
             Refusal::BadLine(_) => "BAD LINE",
-        }
+        })
     }
 }

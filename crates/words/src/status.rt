@@ -1,8 +1,10 @@
 // Where a version stands: its writer has not decided yet, has committed it, or has aborted it.
-ghost use Rattle.std.specs.Prelude.{◌≡◌};
+ghost use Rattle.std.specs.Prelude.{◌≡◌, Some};
 ghost use Rattle.words.specs.Status.{number, name, pending, ended};
 
-#[derive(Clone, Copy, PartialEq, Debug)]
+use std::fmt;
+
+#[derive(Clone, Copy, Debug, PartialEq, Eq)]
 pub enum Status {
     Pending,
     Committed,
@@ -10,50 +12,51 @@ pub enum Status {
 }
 
 // How a pending version ends.
-#[derive(Clone, Copy, PartialEq, Debug)]
+#[derive(Clone, Copy, Debug, PartialEq, Eq)]
 pub enum Ending {
     Commit,
     Abort,
 }
 
 impl Status {
-    // The number of a status in every promise: 0 pending, 1 committed, 2 aborted.
-    pub fn number(self) -> u64
-        ensures { result ≡ number self }
+    pub fn is_pending(self) -> bool
+        ensures { result ≡ pending self }
     {
-        match self {
+        self == Status::Pending
+    }
+}
+
+// The number of a status in every promise: 0 pending, 1 committed, 2 aborted.
+impl From<Status> for u64 {
+    ghost from_gives = { λ s n. n ≡ number s };
+
+    fn from(status: Status) -> u64 {
+        match status {
             Status::Pending => 0,
             Status::Committed => 1,
             Status::Aborted => 2,
         }
     }
+}
 
-    pub fn name(self) -> &'static str
-        ensures { result.now ≡ name self }
-    {
-        match self {
+impl fmt::Display for Status {
+    ghost output = { λ s. Some (name s) };
+
+    fn fmt<W: fmt::Write>(&self, f: &mut fmt::Formatter<W>) -> fmt::Result {
+        f.write_str(match self {
             Status::Pending => "pending",
             Status::Committed => "committed",
             Status::Aborted => "aborted",
-        }
-    }
-
-    pub fn is_pending(self) -> bool
-        ensures { result ≡ pending self }
-    {
-        match self {
-            Status::Pending => true,
-            Status::Committed | Status::Aborted => false,
-        }
+        })
     }
 }
 
-impl Ending {
-    // The status of a version that has ended so.
-    pub fn status(self) -> Status
-        ensures { result ≡ ended self }
-    {
-        match self {
+// The status of a version that has ended so.
+impl From<Ending> for Status {
+    ghost from_gives = { λ e s. s ≡ ended e };
+
+    fn from(ending: Ending) -> Status {
+        match ending {
             Ending::Commit => Status::Committed,
             Ending::Abort => Status::Aborted,
         }

@@ -1,11 +1,12 @@
 // One version of a cell.
-ghost use Rattle.std.specs.Prelude.{◌≡◌};
-ghost use Rattle.words.specs.Version.{first_version, new_version};
+ghost use Rattle.std.specs.Prelude.{◌≡◌, Some};
+ghost use Rattle.words.specs.Version.{first_version, new_version, shown};
 
 use crate::status::Status;
+use std::fmt;
 
 // The value that one writer gave a cell, under the writer's timestamp.
-#[derive(Clone, Copy, PartialEq, Debug)]
+#[derive(Clone, Copy, Debug, PartialEq, Eq)]
 pub struct Version {
     // The timestamp of the pass that wrote it.
     pub write: u64,
@@ -38,5 +39,20 @@ impl Version {
             status: Status::Pending,
             value,
         }
+    }
+}
+
+// As [1280: 2850 committed, read 2305]: stamp, value, status and read stamp.
+impl fmt::Display for Version {
+    ghost output = { λ v. Some (shown v) };
+
+    fn fmt<W: fmt::Write>(&self, f: &mut fmt::Formatter<W>) -> fmt::Result {
+        let Version {
+            write,
+            read,
+            status,
+            value,
+        } = self;
+        write!(f, "[{write}: {value} {status}, read {read}]")
     }
 }
