@@ -1,6 +1,7 @@
--- What a worker's rule comes to in a known stage, by what its tests tell.
-use Rattle.std.proofs.Common.{◌≡◌, ℕ, ◌+◌, ◌-◌, ◌<◌, ◌≤◌, List, [], ◌∷◌, ◌++◌, length, get_or, set, Some, None, Option, sym, refl, ap, ◌∙◌, arith, le-ltb, lt-ltb}
-use Rattle.words.specs.Outcome.{Outcome, accepted, refuse}
+-- What the rules of an open pass come to, by what the searches of its sets tell.
+use Rattle.std.proofs.Common.{◌≡◌, ℕ, ◌+◌, ◌<◌, ◌≤◌, eqb, List, [], ◌∷◌, ◌++◌, length, get_or, set, Some, None, Option, refl, arith, le-ltb, lt-ltb}
+use Rattle.std.specs.List.{position}
+use Rattle.words.specs.Outcome.{accepted, refuse}
 use Rattle.words.specs.declared.refusal.Refusal.{Refusal}
 use Rattle.words.specs.declared.refusal.Refusal.TheVariants.{SetFull}
 use Rattle.words.specs.declared.version.Version.{Version}
@@ -10,45 +11,71 @@ use Rattle.rules.specs.declared.entry.WriteEntry.{WriteEntry}
 use Rattle.rules.specs.Model.{open', Worker, at_stage}
 use Rattle.rules.specs.Sets.{find_read, find_write}
 use Rattle.rules.specs.Search.{visible, search}
-use Rattle.rules.specs.Turns.{Came, accept_by, if_open_by, pass_stamp, read_by, read_in_by, read_written_by, read_known_by, read_new_by, write_by, written_by}
-use Rattle.searches.specs.Place.{place}
+use Rattle.rules.specs.Turns.{Came, pass_stamp, read_by, read_known_by, read_new_by, read_written_by, written_by}
+use Rattle.workers.specs.Shape.{known, known_in}
 use Rattle.searches.proofs.Places.{place_none, place_holds, place_replaces}
 
-module _ (x : Worker) (rs : List ReadEntry) (ws : List WriteEntry) (was : x.stage ≡ open' rs ws) where
-  writes : (e : WriteEntry) (o : Option WriteEntry) → find_write e.cell ws ≡ o → write_by e.cell e.value x ≡ written_by o e rs ws x
-  writes e o h = ap (λ g. if_open_by g x (λ rs ws. written_by (find_write e.cell ws) e rs ws x)) was ∙ ap (λ o. written_by o e rs ws x) h
+abbrev cell_of_write : WriteEntry → ℕ
+cell_of_write e = e.cell
 
-  pub write_some : (e : WriteEntry) (i : ℕ) → place (λ (w : WriteEntry). w.cell) e.cell 0 ws ≡ Some i → write_by e.cell e.value x ≡ (accepted (length ws), at_stage x (open' rs (set ws i e)))
-  write_some e i h =
-      let z : i - 0 ≡ i = omega arith in
-      writes e (Some (get_or ws i e)) (place_holds (λ (w : WriteEntry). w.cell) e.cell i ws e h) ∙
-      ap (λ l. accept_by (length ws) (at_stage x (open' rs l))) (place_replaces e 0 i ws h ∙ ap (λ n. set ws n e) z)
+abbrev cell_of_read : ReadEntry → ℕ
+cell_of_read e = e.cell
 
-  pub write_full : (e : WriteEntry) → place (λ (w : WriteEntry). w.cell) e.cell 0 ws ≡ None → 16 ≤ length ws → write_by e.cell e.value x ≡ (refuse SetFull, x)
-  write_full e h many = writes e None (place_none (λ (w : WriteEntry). w.cell) e.cell 0 ws h) ∙ rw (lt-ltb 15 (length ws) (omega arith))
+module _ (x : Worker) (rs : List ReadEntry) (ws : List WriteEntry) (e : WriteEntry) where
+  abbrev in_pass : Worker
+  in_pass = at_stage x (open' rs ws)
 
-  pub write_more : (e : WriteEntry) → place (λ (w : WriteEntry). w.cell) e.cell 0 ws ≡ None → length ws < 16 → write_by e.cell e.value x ≡ (accepted (length ws + 1), at_stage x (open' rs (ws ++ (e ∷ []))))
-  write_more e h few = writes e None (place_none (λ (w : WriteEntry). w.cell) e.cell 0 ws h) ∙ rw (le-ltb 15 (length ws) (omega arith))
+  pub write_some : (i : ℕ) → position (λ (w : WriteEntry). eqb w.cell e.cell) ws ≡ Some i → (accepted (length ws), at_stage x (open' rs (set ws i e))) ≡ written_by (find_write e.cell ws) e rs ws in_pass
+  write_some i h = rw (place_holds cell_of_write e.cell i ws e h, place_replaces e i ws h) refl
 
-  module _ (t : Table) (w c : ℕ) where
-    abbrev fresh : Came Worker
-    fresh = read_new_by c rs ws (search (visible (pass_stamp x w)) t c) x
+  pub write_full : position (λ (w : WriteEntry). eqb w.cell e.cell) ws ≡ None → 16 ≤ length ws → (refuse SetFull, in_pass) ≡ written_by (find_write e.cell ws) e rs ws in_pass
+  write_full h many = rw (place_none cell_of_write e.cell ws h, lt-ltb 15 (length ws) (omega arith)) refl
 
-    reads : (o : Option WriteEntry) (p : Option ReadEntry) → find_write c ws ≡ o → find_read c rs ≡ p → read_by t w c x ≡ read_written_by o x (read_known_by p x fresh)
-    reads o p h k = ap (λ g. read_in_by g t w c x) was ∙ ap (λ o. read_written_by o x (read_known_by (find_read c rs) x fresh)) h ∙ ap (λ p. read_written_by o x (read_known_by p x fresh)) k
+  pub write_more : position (λ (w : WriteEntry). eqb w.cell e.cell) ws ≡ None → length ws < 16 → (accepted (length ws + 1), at_stage x (open' rs (ws ++ (e ∷ [])))) ≡ written_by (find_write e.cell ws) e rs ws in_pass
+  write_more h few = rw (place_none cell_of_write e.cell ws h, le-ltb 15 (length ws) (omega arith)) refl
 
-    pub read_own : (i : ℕ) (e : WriteEntry) → place (λ (e : WriteEntry). e.cell) c 0 ws ≡ Some i → e ≡ get_or ws i e → (accepted e.value, x) ≡ read_by t w c x
-    read_own i e h is = sym (reads (Some e) (find_read c rs) (place_holds (λ (e : WriteEntry). e.cell) c i ws e h ∙ ap Some (sym is)) refl)
+-- what is known of a cell, by the positions of its entries
+module _ (rs : List ReadEntry) (ws : List WriteEntry) (c : ℕ) where
+  pub known_own : (i : ℕ) (d : WriteEntry) → position (λ (e : WriteEntry). eqb e.cell c) ws ≡ Some i → Some (get_or ws i d).value ≡ known c rs ws
+  known_own i d h = rw (place_holds cell_of_write c i ws d h) refl
 
-    pub read_seen : (i : ℕ) (e : ReadEntry) → place (λ (e : WriteEntry). e.cell) c 0 ws ≡ None → place (λ (e : ReadEntry). e.cell) c 0 rs ≡ Some i → e ≡ get_or rs i e → (accepted e.value, x) ≡ read_by t w c x
-    read_seen i e n h is = sym (reads None (Some e) (place_none (λ (e : WriteEntry). e.cell) c 0 ws n) (place_holds (λ (e : ReadEntry). e.cell) c i rs e h ∙ ap Some (sym is)))
+  pub known_seen : (i : ℕ) (d : ReadEntry) → position (λ (e : WriteEntry). eqb e.cell c) ws ≡ None → position (λ (e : ReadEntry). eqb e.cell c) rs ≡ Some i → Some (get_or rs i d).value ≡ known c rs ws
+  known_seen i d no' h = rw (place_none cell_of_write c ws no', place_holds cell_of_read c i rs d h) refl
 
-    pub read_fresh : place (λ (e : WriteEntry). e.cell) c 0 ws ≡ None → place (λ (e : ReadEntry). e.cell) c 0 rs ≡ None → read_by t w c x ≡ read_new_by c rs ws (search (visible (pass_stamp x w)) t c) x
-    read_fresh n k = reads None None (place_none (λ (e : WriteEntry). e.cell) c 0 ws n) (place_none (λ (e : ReadEntry). e.cell) c 0 rs k)
+  pub known_none : position (λ (e : WriteEntry). eqb e.cell c) ws ≡ None → position (λ (e : ReadEntry). eqb e.cell c) rs ≡ None → None ≡ known c rs ws
+  known_none no' none = rw (place_none cell_of_write c ws no', place_none cell_of_read c rs none) refl
 
--- a new read, where the set has room
-pub read_found : (x : Worker) (rs : List ReadEntry) (ws : List WriteEntry) (c : ℕ) (o : Outcome Version) → length rs < 16 → (v : Version) → accepted v ≡ o → read_new_by c rs ws o x ≡ (accepted v.value, at_stage x (open' (rs ++ (record { cell = c; stamp = v.write; value = v.value } ∷ [])) ws))
-read_found x rs ws c o few v e = ap (λ o. read_new_by c rs ws o x) (sym e) ∙ rw (le-ltb 15 (length rs) (omega arith))
+-- a read of an open pass
+module _ (x : Worker) (rs : List ReadEntry) (ws : List WriteEntry) (t : Table) (w c : ℕ) where
+  abbrev reader : Worker
+  reader = at_stage x (open' rs ws)
 
-pub read_refused : (x : Worker) (rs : List ReadEntry) (ws : List WriteEntry) (c : ℕ) (o : Outcome Version) → length rs < 16 → (e : Refusal) → refuse e ≡ o → read_new_by c rs ws o x ≡ (refuse e, x)
-read_refused x rs ws c o few r e = ap (λ o. read_new_by c rs ws o x) (sym e) ∙ rw (le-ltb 15 (length rs) (omega arith))
+  abbrev fresh : Came Worker
+  fresh = read_new_by c rs ws (search (visible (pass_stamp x w)) t c) reader
+
+  abbrev from_known : Option ℕ → Came Worker
+  from_known (Some v) = (accepted v, reader)
+  from_known None = fresh
+
+  read_is : read_by t w c reader ≡ from_known (known c rs ws)
+  read_is = by (find_write c ws) (find_read c rs)
+    where
+      by : (o : Option WriteEntry) (p : Option ReadEntry) → read_written_by o reader (read_known_by p reader fresh) ≡ from_known (known_in o p)
+      by (Some e) p = refl
+      by None (Some e) = refl
+      by None None = refl
+
+  pub read_known : (v : ℕ) → Some v ≡ known c rs ws → (accepted v, reader) ≡ read_by t w c reader
+  read_known v h = rw (read_is, ← h) refl
+
+  module _ (none : None ≡ known c rs ws) where
+    pub read_full : 16 ≤ length rs → (refuse SetFull, reader) ≡ read_by t w c reader
+    read_full many = rw (read_is, ← none, lt-ltb 15 (length rs) (omega arith)) refl
+
+    module _ (few : length rs < 16) where
+      pub read_refused : (e : Refusal) → refuse e ≡ search (visible (pass_stamp x w)) t c → (refuse e, reader) ≡ read_by t w c reader
+      read_refused e h = rw (read_is, ← none, le-ltb 15 (length rs) (omega arith), ← h) refl
+
+      pub read_found : (v : Version) → accepted v ≡ search (visible (pass_stamp x w)) t c
+          → (accepted v.value, at_stage x (open' (rs ++ (record { cell = c; stamp = v.write; value = v.value } ∷ [])) ws)) ≡ read_by t w c reader
+      read_found v h = rw (read_is, ← none, le-ltb 15 (length rs) (omega arith), ← h) refl

@@ -1,8 +1,8 @@
 // begin, pulse and sync: the calls that move a worker's clock.
 ghost use Rattle.std.specs.Prelude.{◌≡◌};
 ghost use Rattle.words.specs.Outcome.{told, accepted};
-ghost use Rattle.rules.specs.Turns.{sync_by, tick_by};
-ghost use Rattle.workers.specs.Shape.{shape, stage_after};
+ghost use Rattle.rules.specs.Turns.{sync_by, tick_by, pass_stamp};
+ghost use Rattle.workers.specs.Shape.{stage_after};
 
 use crate::seat::Seat;
 use crate::stage::Stage;
@@ -24,7 +24,7 @@ pub enum Tick {
 impl Worker {
     // Adds the elapsed units to the clock and answers the new timestamp; begin opens a pass.
     pub fn tick(&mut self, seat: Seat, call: Tick, units: u64) -> Result<u64, Refusal>
-        ensures { (told result, shape self.new) ≡ tick_by (stage_after call) seat.number units (shape self.old) }
+        ensures { (told result, self.new) ≡ tick_by (stage_after call) seat.number units self.old }
     {
         let clock = self.clock + units.min(LONGEST).max(1);
         let adjusted = (clock + self.boost).max(self.last + 1);
@@ -36,12 +36,12 @@ impl Worker {
                 self.stage = Stage::Open;
                 self.clock = clock;
                 self.last = adjusted;
-                Ok(adjusted * 256 + seat.number())
+                Ok(seat.stamp(adjusted))
             }
             (Stage::Idle, Tick::Pulse) => {
                 self.clock = clock;
                 self.last = adjusted;
-                Ok(adjusted * 256 + seat.number())
+                Ok(seat.stamp(adjusted))
             }
             _ => Err(Refusal::OutOfTurn),
         }
@@ -61,9 +61,16 @@ impl Worker {
         Time { units: self.last }
     }
 
+    // The timestamp of the pass that the worker runs: its last.
+    pub fn stamp(&self, seat: Seat) -> u64
+        ensures { result ≡ pass_stamp self.now seat.number }
+    {
+        seat.stamp(self.last)
+    }
+
     // Brings the clock up to another's reading, and answers it.
     pub fn sync(&mut self, other: Time) -> u64
-        ensures { (accepted result, shape self.new) ≡ sync_by other.units (shape self.old) }
+        ensures { (accepted result, self.new) ≡ sync_by other.units self.old }
     {
         self.clock = self.clock.max(other.units);
         self.clock

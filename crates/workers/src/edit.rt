@@ -1,9 +1,7 @@
 // write and seal: the calls of an open pass that need no table.
 ghost use Rattle.std.specs.Prelude.{◌≡◌};
 ghost use Rattle.words.specs.Outcome.{told};
-ghost use Rattle.workers.specs.Shape.{shape, edited};
-ghost use Rattle.workers.specs.declared.stage.Stage.TheVariants.{Open};
-ghost use Rattle.workers.specs.declared.edit.Edit.TheVariants.{Write};
+ghost use Rattle.workers.specs.Shape.{edited};
 
 use crate::stage::Stage;
 use crate::worker::Worker;
@@ -18,29 +16,22 @@ pub enum Edit {
 }
 
 impl Worker {
-    // Replaces the entry for the cell or adds one.
-    fn write(&mut self, entry: WriteEntry) -> Result<u64, Refusal>
-        requires { self.old.stage ≡ Open }
-        ensures { (told result, shape self.new) ≡ edited (Write entry) (shape self.old) }
-    {
-        match find(self.writes.as_slice(), entry.cell) {
-            Some(i) => {
-                self.writes[i] = entry;
-                Ok(self.writes.len() as u64)
-            }
-            None if self.writes.len() >= 16 => Err(Refusal::SetFull),
-            None => {
-                self.writes.push_reserved(entry);
-                Ok(self.writes.len() as u64)
-            }
-        }
-    }
-
     pub fn edit(&mut self, call: Edit) -> Result<u64, Refusal>
-        ensures { (told result, shape self.new) ≡ edited call (shape self.old) }
+        ensures { (told result, self.new) ≡ edited call self.old }
     {
         match (self.stage, call) {
-            (Stage::Open, Edit::Write(entry)) => self.write(entry),
+            // Replaces the entry for the cell or adds one.
+            (Stage::Open, Edit::Write(entry)) => match find(self.writes.as_slice(), entry.cell) {
+                Some(i) => {
+                    self.writes[i] = entry;
+                    Ok(self.writes.len() as u64)
+                }
+                None if self.writes.len() >= 16 => Err(Refusal::SetFull),
+                None => {
+                    self.writes.push_reserved(entry);
+                    Ok(self.writes.len() as u64)
+                }
+            },
             (Stage::Open, Edit::Seal) => {
                 self.stage = Stage::Sealed(0);
                 Ok(2 * (self.writes.len() + self.reads.len()) as u64)

@@ -18,7 +18,6 @@ mod worker;
 
 pub use clock::Tick;
 pub use edit::Edit;
-pub use ends::End;
 pub use glance::Glance;
 pub use seat::Seat;
 pub use stage::Stage;

@@ -1,7 +1,6 @@
 // The making of a worker.
 ghost use Rattle.std.specs.Prelude.{◌≡◌, IfOk};
 ghost use Rattle.rules.specs.Model.{new_worker};
-ghost use Rattle.workers.specs.Shape.{shape};
 
 use crate::stage::Stage;
 use crate::worker::Worker;
@@ -11,7 +10,7 @@ use std::alloc::{AllocError, Global};
 impl Worker {
     // A worker before its first call, with room for both sets.
     pub fn new(heap: Global) -> Result<Worker, AllocError>
-        ensures { IfOk result (λ x. shape x ≡ new_worker) }
+        ensures { IfOk result (λ x. x ≡ new_worker) }
     {
         let reads: Vec<ReadEntry> = Vec::with_capacity(heap, 16)?;
         let writes: Vec<WriteEntry> = Vec::with_capacity(heap, 16)?;

@@ -1,10 +1,10 @@
 // A worker's place: its clock, its stage, and the sets of the pass that it runs.
-ghost use Rattle.std.specs.Prelude.{◌^◌, ◌<◌, ◌≤◌, vec_len, vec_capacity};
-
 use crate::stage::Stage;
 use rules::{ReadEntry, WriteEntry};
+use std::marker::Model;
 
-// Both sets have room for their 16 entries from the making on, so no call needs memory.
+// Both sets have room for their 16 entries from the making on, so no call needs memory. Contracts see a
+// worker as the worker of the rules.
 #[derive(Drop)]
 pub struct Worker {
     pub(crate) clock: u64,
@@ -13,6 +13,16 @@ pub struct Worker {
     pub(crate) stage: Stage,
     pub(crate) reads: Vec<ReadEntry>,
     pub(crate) writes: Vec<WriteEntry>,
-    ghost bounds: { (clock < 2 ^ 50) × (boost ≤ 10) × (last < 2 ^ 50) },
-    ghost roomy: { (vec_len reads ≤ 16) × (vec_len writes ≤ 16) × (16 ≤ vec_capacity reads) × (16 ≤ vec_capacity writes) },
+}
+
+impl Model for Worker {
+    ghost use Rattle.rules.specs.Model.{Worker as Turning};
+
+    ghost Value = { Turning };
+
+    ghost use Rattle.workers.specs.Shape.{shape, InBounds};
+
+    ghost view = { shape };
+
+    ghost invariant = { InBounds };
 }
