@@ -1,5 +1,5 @@
 -- A call that changed one worker in its place is the rules' call on the whole map.
-use Rattle.std.proofs.Common.{◌≡◌, ℕ, ◌<◌, ◌≤◌, List, [], ◌∷◌, map, length, get_or, set, replicate, vec_items, sym, refl, ap, ◌∙◌, subst, le-ltb, lt-ltb}
+use Rattle.std.proofs.Common.{◌≡◌, ℕ, ◌<◌, ◌≤◌, List, [], ◌∷◌, length, get_or, set, replicate, vec_items, sym, refl, ap, ◌∙◌, subst, le-ltb, lt-ltb}
 use Rattle.words.specs.Outcome.{Outcome, accepted, refused}
 use Rattle.words.specs.declared.refusal.Refusal.TheVariants.{NoWorker}
 use Rattle.tables.specs.Table.{Table, Cleared}
@@ -14,8 +14,6 @@ use Rattle.rules.proofs.Refusals.{refused_unchanged}
 use Rattle.rules.proofs.Same.{same_outcome}
 use Rattle.law.specs.History.{Event}
 use Rattle.law.specs.Run.{Run, more}
-use Rattle.workers.specs.declared.worker.Worker.{Worker as Place}
-use Rattle.workers.specs.Shape.{shape}
 use Rattle.map.specs.declared.inner.Inner.{Inner}
 use Rattle.map.specs.Plate.{seated, plate}
 use Rattle.map.specs.Performed.{Performed}
@@ -47,30 +45,30 @@ performed t u i j call answer turn beneath =
       );
     }
 
-abbrev pub over : Table → List Place → ℕ → ℕ → Model
+abbrev pub over : Table → List Worker → ℕ → ℕ → Model
 over t xs n m = record { workers = n; worker = seated xs; cells = t.cells; lists = t.versions; commits = m }
 
 -- no such worker
 pub no_worker : (m : Model) (w : ℕ) (d : Done) → m.workers ≤ w → deny_by NoWorker m ≡ with_a_worker m w d
 no_worker m w d le = rw (le-ltb w m.workers le)
 
-module _ (t u : Table) (xs : List Place) (n m w : ℕ) (x y : Place) (within : w < n) (places : w < length xs) (is : x ≡ get_or xs w x) (a : Outcome ℕ) where
-  pub here : seated xs w ≡ shape x
-  here = seated_at xs w x places ∙ ap shape (sym is)
+module _ (t u : Table) (xs : List Worker) (n m w : ℕ) (x y : Worker) (within : w < n) (places : w < length xs) (is : x ≡ get_or xs w x) (a : Outcome ℕ) where
+  pub here : seated xs w ≡ x
+  here = seated_at xs w x places ∙ sym is
 
-  pub lifted : (f : Worker → Came Worker) → (a, shape y) ≡ f (shape x) → (a, over t (set xs w y) n m) ≡ at_worker (over t xs n m) w f
+  pub lifted : (f : Worker → Came Worker) → (a, y) ≡ f x → (a, over t (set xs w y) n m) ≡ at_worker (over t xs n m) w f
   lifted f h =
       (λ i. (a, record { workers = n; worker = seated_set xs w y places i; cells = t.cells; lists = t.versions; commits = m })) ∙
       ap (in_place (over t xs n m) w) (h ∙ ap f (sym here)) ∙ sym (rw (lt-ltb w n within))
 
-  pub lifted_both : (f : Worker → Came (Worker × Lists)) → u.cells ≡ t.cells → (a, (shape y, u.versions)) ≡ f (shape x) → (a, over u (set xs w y) n m) ≡ at_both (over t xs n m) w f
+  pub lifted_both : (f : Worker → Came (Worker × Lists)) → u.cells ≡ t.cells → (a, (y, u.versions)) ≡ f x → (a, over u (set xs w y) n m) ≡ at_both (over t xs n m) w f
   lifted_both f same h =
       (λ i. (a, record { workers = n; worker = seated_set xs w y places i; cells = same i; lists = u.versions; commits = m })) ∙
       ap (in_both (over t xs n m) w) (h ∙ ap f (sym here)) ∙ sym (rw (lt-ltb w n within))
 
 -- a map just made is the rules' new map
-pub made_map : (t u : Table) (i : Inner) (n : ℕ) → Cleared t u → map shape (vec_items i.workers) ≡ replicate 16 new_worker → i.count ≡ workers_of n → i.commits ≡ 0 → plate u i ≡ new_map n t.cells
-made_map t u i n clear new count none = λ k. record { workers = count k; worker = seated_new (vec_items i.workers) 16 new k; cells = clear.cells k; lists = clear.versions k; commits = none k }
+pub made_map : (t u : Table) (i : Inner) (n : ℕ) → Cleared t u → vec_items i.workers ≡ replicate 16 new_worker → i.count ≡ workers_of n → i.commits ≡ 0 → plate u i ≡ new_map n t.cells
+made_map t u i n clear new count none = λ k. record { workers = count k; worker = (ap seated new ∙ seated_new 16) k; cells = clear.cells k; lists = clear.versions k; commits = none k }
 
 -- a run and one call more
 pub one_more_event : (workers cells : ℕ) (es : List Event) (t u : Table) (i j : Inner) (call : Call) (answer : Outcome ℕ) → Run workers cells es t (plate t i) → Performed t i call answer u j → Run workers cells (record { call = call; answer = answer } ∷ es) u (plate u j)

@@ -5,8 +5,7 @@ use Rattle.std.proofs.lemmas.Bool.Decides.{nat_tests}
 use Rattle.rules.specs.Model.{Stage, idle, open', sealed, looking, Worker}
 use Rattle.rules.specs.Stamps.{least, look_floor}
 use Rattle.law.proofs.Lines.{least_same}
-use Rattle.workers.specs.declared.worker.Worker.{Worker as Place}
-use Rattle.workers.specs.Shape.{shape, looking_from}
+use Rattle.workers.specs.Shape.{looking_from}
 use Rattle.map.specs.Plate.{seated}
 
 -- the least of b and of f below n
@@ -47,26 +46,26 @@ is_looking (sealed rs ws k) b f h = absurd (let z : ◌≡◌ {A = ℕ} 0 1 = cc
 is_looking (looking g) b f h = let z : g ≡ f = cc in z
 
 -- one turn over the looks
-pub keep_look : (ws : List Place) (b i : ℕ) (x : Place) (a f r : ℕ) → shape x ≡ seated ws i → a ≡ lowest (λ v. look_floor (seated ws v).stage b) b i → looking_from (shape x).stage ≡ Some f → r ≡ min a f
+pub keep_look : (ws : List Worker) (b i : ℕ) (x : Worker) (a f r : ℕ) → x ≡ seated ws i → a ≡ lowest (λ v. look_floor (seated ws v).stage b) b i → looking_from x.stage ≡ Some f → r ≡ min a f
     → r ≡ lowest (λ v. look_floor (seated ws v).stage b) b (i + 1)
 keep_look ws b i x a f r here inv look is =
-    is ∙ ap (λ a. min a f) inv ∙ lowest_next (λ v. look_floor (seated ws v).stage b) b i f (sym (ap (λ (y : Worker). look_floor y.stage b) (sym here) ∙ is_looking (shape x).stage b f look))
+    is ∙ ap (λ a. min a f) inv ∙ lowest_next (λ v. look_floor (seated ws v).stage b) b i f (sym (ap (λ (y : Worker). look_floor y.stage b) (sym here) ∙ is_looking x.stage b f look))
 
-pub keep_rest : (ws : List Place) (b i : ℕ) (x : Place) (a r : ℕ) → shape x ≡ seated ws i → a ≡ lowest (λ v. look_floor (seated ws v).stage b) b i → looking_from (shape x).stage ≡ None → r ≡ a
+pub keep_rest : (ws : List Worker) (b i : ℕ) (x : Worker) (a r : ℕ) → x ≡ seated ws i → a ≡ lowest (λ v. look_floor (seated ws v).stage b) b i → looking_from x.stage ≡ None → r ≡ a
     → r ≡ lowest (λ v. look_floor (seated ws v).stage b) b (i + 1)
 keep_rest ws b i x a r here inv look is =
     let low = lowest_bound (λ v. look_floor (seated ws v).stage b) b i in
     let z : lowest (λ v. look_floor (seated ws v).stage b) b i ≡ min (lowest (λ v. look_floor (seated ws v).stage b) b i) b = omega arith in
-    is ∙ inv ∙ z ∙ lowest_next (λ v. look_floor (seated ws v).stage b) b i b (sym (ap (λ (y : Worker). look_floor y.stage b) (sym here) ∙ not_looking (shape x).stage b look))
+    is ∙ inv ∙ z ∙ lowest_next (λ v. look_floor (seated ws v).stage b) b i b (sym (ap (λ (y : Worker). look_floor y.stage b) (sym here) ∙ not_looking x.stage b look))
 
 -- the least over the workers that are in use, of all places
-seated_take : (n : ℕ) (xs : List Place) (w : ℕ) → w < n → seated (take n xs) w ≡ seated xs w
+seated_take : (n : ℕ) (xs : List Worker) (w : ℕ) → w < n → seated (take n xs) w ≡ seated xs w
 seated_take zero xs w h = absurd (omega arith)
 seated_take (suc n) [] w h = refl
 seated_take (suc n) (x ∷ xs) zero h = refl
 seated_take (suc n) (x ∷ xs) (suc w) h = let r = seated_take n xs w (omega arith) in grind (arith, nat_tests)
 
-pub least_used : (F : Worker → ℕ → ℕ) (n : ℕ) (xs : List Place) → n ≤ length xs → 0 < n → least (λ w. F (seated (take n xs) w) w) (length (take n xs) - 1) ≡ least (λ w. F (seated xs w) w) (n - 1)
+pub least_used : (F : Worker → ℕ → ℕ) (n : ℕ) (xs : List Worker) → n ≤ length xs → 0 < n → least (λ w. F (seated (take n xs) w) w) (length (take n xs) - 1) ≡ least (λ w. F (seated xs w) w) (n - 1)
 least_used F n xs le pos =
     let z : length (take n xs) ≡ n = length-take n xs ∙ omega arith in
     ap (λ k. least (λ w. F (seated (take n xs) w) w) (k - 1)) z ∙ least_same (λ w. F (seated (take n xs) w) w) (λ w. F (seated xs w) w) (n - 1) (λ j l. ap (λ (q : Worker). F q j) (seated_take n xs j (omega arith)))

@@ -1,18 +1,15 @@
 -- The model of a map in memory: its table's meaning and its own fields, nothing else.
-use Rattle.std.specs.Prelude.{ℕ, ◌-◌, cond, List, [], ◌∷◌, vec_items, ◌==◌}
+use Rattle.std.specs.Prelude.{ℕ, List, vec_items, slice_index_or}
 use Rattle.tables.specs.Table.{Table}
 use Rattle.rules.specs.Model.{Worker, Model, new_worker}
 use Rattle.rules.specs.Stamps.{timestamp}
-use Rattle.workers.specs.declared.worker.Worker.{Worker as Place}
-use Rattle.workers.specs.Shape.{shape}
 use Rattle.map.specs.declared.inner.Inner.{Inner}
 
 -- the worker in each place; past the last place a worker before its first call
-abbrev pub seated : List Place → ℕ → Worker
-seated [] w = new_worker
-seated (x ∷ xs) w = cond (w == 0) (shape x) (seated xs (w - 1))
+abbrev pub seated : List Worker → ℕ → Worker
+seated xs w = slice_index_or xs w new_worker
 
-abbrev pub last_of : List Place → ℕ → ℕ
+abbrev pub last_of : List Worker → ℕ → ℕ
 last_of xs w = timestamp (seated xs w).last w
 
 abbrev pub plate : Table → Inner → Model

@@ -9,8 +9,8 @@ ghost use Rattle.rules.specs.declared.call.Call.TheVariants.{Sync, Seal, Write, 
 use crate::crew::Crew;
 use rules::WriteEntry;
 use tables::VersionTable;
-use words::Refusal;
-use workers::{Edit, End, Glance, Seat, Step, Tick};
+use words::{Ending, Refusal};
+use workers::{Edit, Glance, Seat, Step, Tick};
 
 impl Crew {
     // The seat of a worker of the map.
@@ -20,20 +20,15 @@ impl Crew {
         if worker >= self.inner.count {
             return Err(Refusal::NoWorker);
         }
-        match Seat::of(worker) {
-            Some(seat) => Ok(seat),
-            None => Err(Refusal::NoWorker),
-        }
+        Seat::try_from(worker)
     }
 
     // begin and pulse.
     pub(crate) fn tick(&mut self, worker: u64, call: Tick, units: u64) -> Result<u64, Refusal>
         ensures { (t : Table) → Performed t self.old.inner (tick_call call worker units) (told result) t self.new.inner }
     {
-        match self.seat(worker) {
-            Ok(seat) => self.inner.worker(worker as usize).tick(seat, call, units),
-            Err(refusal) => Err(refusal),
-        }
+        let seat = self.seat(worker)?;
+        self.inner.worker(worker as usize).tick(seat, call, units)
     }
 
     // install, stamp and check.
@@ -45,19 +40,15 @@ impl Crew {
     ) -> Result<u64, Refusal>
         ensures { Performed (T.meaning table.old) self.old.inner (step_call call worker) (told result) (T.meaning table.new) self.new.inner }
     {
-        match self.seat(worker) {
-            Ok(seat) => self.inner.worker(worker as usize).step(table, seat, call),
-            Err(refusal) => Err(refusal),
-        }
+        let seat = self.seat(worker)?;
+        self.inner.worker(worker as usize).step(table, seat, call)
     }
 
     pub(crate) fn seal(&mut self, worker: u64) -> Result<u64, Refusal>
         ensures { (t : Table) → Performed t self.old.inner (Seal worker) (told result) t self.new.inner }
     {
-        match self.seat(worker) {
-            Ok(_) => self.inner.worker(worker as usize).edit(Edit::Seal),
-            Err(refusal) => Err(refusal),
-        }
+        self.seat(worker)?;
+        self.inner.worker(worker as usize).edit(Edit::Seal)
     }
 
     // A write to one of so many cells.
@@ -69,15 +60,11 @@ impl Crew {
     ) -> Result<u64, Refusal>
         ensures { (t : Table) → t.cells ≡ cells → Performed t self.old.inner (Write worker entry.cell entry.value) (told result) t self.new.inner }
     {
-        match self.seat(worker) {
-            Ok(_) => {
-                if entry.cell >= cells {
-                    return Err(Refusal::NoCell);
-                }
-                self.inner.worker(worker as usize).edit(Edit::Write(entry))
-            }
-            Err(refusal) => Err(refusal),
+        self.seat(worker)?;
+        if entry.cell >= cells {
+            return Err(Refusal::NoCell);
         }
+        self.inner.worker(worker as usize).edit(Edit::Write(entry))
     }
 
     pub(crate) fn read<T: VersionTable>(
@@ -88,54 +75,38 @@ impl Crew {
     ) -> Result<u64, Refusal>
         ensures { Performed (T.meaning table.now) self.old.inner (Read worker cell) (told result) (T.meaning table.now) self.new.inner }
     {
-        match self.seat(worker) {
-            Ok(seat) => {
-                if cell >= table.cells() as u64 {
-                    return Err(Refusal::NoCell);
-                }
-                self.inner.worker(worker as usize).read(table, seat, cell)
-            }
-            Err(refusal) => Err(refusal),
+        let seat = self.seat(worker)?;
+        if cell >= table.cells() as u64 {
+            return Err(Refusal::NoCell);
         }
+        self.inner.worker(worker as usize).read(table, seat, cell)
     }
 
     pub(crate) fn close(&mut self, worker: u64) -> Result<u64, Refusal>
         ensures { (t : Table) → Performed t self.old.inner (Close worker) (told result) t self.new.inner }
     {
-        match self.seat(worker) {
-            Ok(_) => self.inner.worker(worker as usize).glance(Glance::Close),
-            Err(refusal) => Err(refusal),
-        }
+        self.seat(worker)?;
+        self.inner.worker(worker as usize).glance(Glance::Close)
     }
 
     // Brings a worker's clock up to another's.
     pub(crate) fn sync(&mut self, worker: u64, other: u64) -> Result<u64, Refusal>
         ensures { (t : Table) → Performed t self.old.inner (Sync worker other) (told result) t self.new.inner }
     {
-        match self.seat(worker) {
-            Ok(_) => match self.seat(other) {
-                Ok(_) => {
-                    let time = self.inner.workers[other as usize].time();
-                    Ok(self.inner.worker(worker as usize).sync(time))
-                }
-                Err(refusal) => Err(refusal),
-            },
-            Err(refusal) => Err(refusal),
-        }
+        self.seat(worker)?;
+        self.seat(other)?;
+        let time = self.inner.workers[other as usize].time();
+        Ok(self.inner.worker(worker as usize).sync(time))
     }
 
     pub(crate) fn look(&mut self, worker: u64) -> Result<u64, Refusal>
         ensures { (t : Table) → Performed t self.old.inner (Look worker) (told result) t self.new.inner }
     {
-        match self.seat(worker) {
-            Ok(_) => {
-                let floor = self.floor();
-                self.inner
-                    .worker(worker as usize)
-                    .glance(Glance::Look(floor))
-            }
-            Err(refusal) => Err(refusal),
-        }
+        self.seat(worker)?;
+        let floor = self.floor();
+        self.inner
+            .worker(worker as usize)
+            .glance(Glance::Look(floor))
     }
 
     pub(crate) fn abort<T: VersionTable>(
@@ -145,13 +116,10 @@ impl Crew {
     ) -> Result<u64, Refusal>
         ensures { Performed (T.meaning table.old) self.old.inner (Abort worker) (told result) (T.meaning table.new) self.new.inner }
     {
-        match self.seat(worker) {
-            Ok(seat) => self
-                .inner
-                .worker(worker as usize)
-                .end(table, seat, End::Abort),
-            Err(refusal) => Err(refusal),
-        }
+        let seat = self.seat(worker)?;
+        self.inner
+            .worker(worker as usize)
+            .end(table, seat, Ending::Abort)
     }
 
     pub(crate) fn commit<T: VersionTable>(
@@ -161,19 +129,12 @@ impl Crew {
     ) -> Result<u64, Refusal>
         ensures { Performed (T.meaning table.old) self.old.inner (Commit worker) (told result) (T.meaning table.new) self.new.inner }
     {
-        match self.seat(worker) {
-            Ok(seat) => match self
-                .inner
-                .worker(worker as usize)
-                .end(table, seat, End::Commit)
-            {
-                Ok(stamp) => {
-                    self.inner.commits = (self.inner.commits + 1).min(4294967295);
-                    Ok(stamp)
-                }
-                Err(refusal) => Err(refusal),
-            },
-            Err(refusal) => Err(refusal),
-        }
+        let seat = self.seat(worker)?;
+        let stamp = self
+            .inner
+            .worker(worker as usize)
+            .end(table, seat, Ending::Commit)?;
+        self.inner.commits = (self.inner.commits + 1).min(4294967295);
+        Ok(stamp)
     }
 }

@@ -13,10 +13,7 @@ impl Crew {
     pub(crate) fn show<T: VersionTable>(&self, table: &T, cell: u64) -> Result<u64, Refusal>
         ensures { Performed (T.meaning table.now) self.now.inner (Show cell) (told result) (T.meaning table.now) self.now.inner }
     {
-        match search(table, cell as usize, Sought::Newest) {
-            Ok(version) => Ok(version.value),
-            Err(refusal) => Err(refusal),
-        }
+        Ok(search(table, cell as usize, Sought::Newest)?.value)
     }
 
     // Cuts a cell at its newest committed version below the keep line; answers how many versions went.
@@ -24,9 +21,7 @@ impl Crew {
         ensures { Performed (T.meaning table.old) self.now.inner (Collect cell) (told result) (T.meaning table.new) self.now.inner }
     {
         let line = self.keep_line();
-        match search(table, cell as usize, Sought::NewestBelow(line)) {
-            Ok(version) => table.cut(cell as usize, version.write),
-            Err(refusal) => Err(refusal),
-        }
+        let version = search(&*table, cell as usize, Sought::NewestBelow(line))?;
+        table.cut(cell as usize, version.write)
     }
 }

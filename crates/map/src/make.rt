@@ -1,9 +1,8 @@
 // The making of the worker places.
-ghost use Rattle.std.specs.Prelude.{◌≡◌, map, replicate, IfOk, vec_len};
+ghost use Rattle.std.specs.Prelude.{◌≡◌, replicate, IfOk, vec_len};
 ghost use Rattle.rules.specs.Model.{new_worker, new_map, workers_of};
 ghost use Rattle.tables.specs.Table.{Cleared};
 ghost use Rattle.map.specs.Plate.{plate};
-ghost use Rattle.workers.specs.Shape.{shape};
 
 use crate::crew::Crew;
 use crate::inner::Inner;
@@ -15,7 +14,7 @@ use workers::Worker;
 impl Crew {
     // Sixteen workers before their first call; so many as asked for, counted as 1 to 16, are in use.
     pub(crate) fn new(heap: Global, asked: u64) -> Result<Crew, AllocError>
-        ensures { IfOk result (λ c. (map shape c.inner.workers.items ≡ replicate 16 new_worker) × (c.inner.count ≡ workers_of asked) × (c.inner.commits ≡ 0)) }
+        ensures { IfOk result (λ c. (c.inner.workers.items ≡ replicate 16 new_worker) × (c.inner.count ≡ workers_of asked) × (c.inner.commits ≡ 0)) }
     {
         let mut workers = Vec::new(heap);
         for _n in 0..16usize {

@@ -1,6 +1,5 @@
 use Rattle.std.proofs.Common.{◌≡◌, length, sym, ap, ◌∙◌, arith, rules}
 use Rattle.rules.specs.Stamps.{look_floor}
-use Rattle.workers.specs.Shape.{shape}
 use Rattle.map.specs.Plate.{seated}
 use Rattle.map.proofs.Places.{seated_at}
 use Rattle.map.proofs.Lowest.{lowest, lowest_all, keep_look, keep_rest}
@@ -13,7 +12,7 @@ loop-worker-preserved c =
     let i = c.loop-worker.worker-index in
     let b = c.args.floor in
     let x = c.worker-item.result in
-    let here : shape x ≡ seated ws i = ap shape c.worker-item.is ∙ sym (seated_at ws i x c.loop-worker-test.true) in
+    let here : x ≡ seated ws i = c.worker-item.is ∙ sym (seated_at ws i x c.loop-worker-test.true) in
     elim c.match-look_floor.branch [
       | in-Some w ↦ keep_look ws b i x c.loop-worker.least w.in-Some.look _ here c.loop-worker.invariant (sym w.in-Some.ensures) (search rules)
       | in_default w ↦ keep_rest ws b i x c.loop-worker.least _ here c.loop-worker.invariant (search rules) (search rules)

@@ -3,8 +3,8 @@ use Rattle.words.specs.Outcome.{told}
 use Rattle.map.proofs.Families.{look_performed}
 use Rattle.map.proofs.crew.Crew.look.Goals as goal
 
-pub returns-in-Ok : goal.returns-in-Ok
-returns-in-Ok c t =
+pub returns : goal.returns
+returns c t =
     let i = c.args.self.now.inner in
-    let e = c.in-Ok.ensures in
+    let e = c.in_ok-seat.ensures in
     look_performed t t i c.args.worker c.worker.result.now c.glance.new.self e.0 (search rules) c.worker.ensures.value (told c.glance.result) _ (λ v. refl) c.floor-floor.result (c.floor-floor.ensures t) c.glance.ensures

@@ -1,7 +1,8 @@
-use Rattle.std.proofs.Common.{vec_items, rules}
-use Rattle.map.proofs.Places.{grown}
+use Rattle.std.proofs.Common.{◌∙◌, rules}
+use Rattle.std.proofs.lemmas.List.{replicate_more}
+use Rattle.rules.specs.Model.{new_worker}
 use Rattle.map.proofs.crew.Crew.new.Goals as goal
 
 pub loop-n-preserved : goal.loop-n-preserved
 loop-n-preserved c =
-    (grown (vec_items c.loop-n.workers) (vec_items c.push.new.self) c.in_ok-worker.worker c.loop-n._n (search rules) c.loop-n.invariant.0 c.in_ok-worker.ensures, search rules)
+    (c.in_ok-push.ensures.items ∙ rw (c.loop-n.invariant.0, c.in_ok-worker.ensures) (replicate_more c.loop-n._n new_worker), search rules)

@@ -1,7 +1,6 @@
-use Rattle.std.proofs.Common.{◌≡◌, map, replicate, vec_items, vec_len}
+use Rattle.std.proofs.Common.{◌≡◌, replicate, vec_items, vec_len}
 use Rattle.rules.specs.Model.{new_worker}
-use Rattle.workers.specs.Shape.{shape}
 use Rattle.map.proofs.crew.Crew.new.Given as goal
 
 abbrev pub invariant-loop-n : goal.invariant-loop-n
-invariant-loop-n l = (map shape (vec_items l.workers) ≡ replicate l._n new_worker) × (vec_len l.workers ≡ l._n)
+invariant-loop-n l = (vec_items l.workers ≡ replicate l._n new_worker) × (vec_len l.workers ≡ l._n)
