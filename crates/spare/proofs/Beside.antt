@@ -11,11 +11,11 @@ use Rattle.tables.proofs.Lengths.{length_with}
 use Rattle.spare.specs.Spare.{taken, room, stamped, kept_spare, lost, with_spare}
 
 -- what a version put in answers for its own stamp, and leaves for others
-holds_with : (s : ℕ) (v : Version) (vs : List Version) → holds s (with_version v vs) ≡ (eqb v.write s || holds s vs)
+pub holds_with : (s : ℕ) (v : Version) (vs : List Version) → holds s (with_version v vs) ≡ (eqb v.write s || holds s vs)
 holds_with s v [] = refl
 holds_with s v (w ∷ ws) = grind (arith, nat_tests, holds_with s v ws)
 
-pending_with : (s : ℕ) (v : Version) (vs : List Version) → holds_pending s (with_version v vs) ≡ cond (eqb v.write s) (pending v.status) (holds_pending s vs)
+pub pending_with : (s : ℕ) (v : Version) (vs : List Version) → holds_pending s (with_version v vs) ≡ cond (eqb v.write s) (pending v.status) (holds_pending s vs)
 pending_with s v [] = refl
 pending_with s v (w ∷ ws) = grind (arith, nat_tests, pending_with s v ws)
 
@@ -45,21 +45,10 @@ module _ (p : Version → Bool) (v : Version) where
   cut_with n (w ∷ ws) h = grind (arith, nat_tests, cut_with w.write ws, goes_first w.write (w ∷ ws))
 
 -- whether the spare version is stamped s
-pub is_stamped : (s : ℕ) (v : Version) (o : Option Version) → Some v ≡ o → v.write ≡ s → Some v ≡ stamped s o
-is_stamped s v o is same = grind (arith, nat_tests)
-
 pub not_stamped : (s : ℕ) (v : Version) (o : Option Version) → Some v ≡ o → (v.write ≡ s → ⊥) → None ≡ stamped s o
 not_stamped s v o is differs = grind (arith, nat_tests)
 
 -- where the spare version is not stamped s, what is asked of s is asked of the list below
-pub holds_below : (s : ℕ) (o : Option Version) → None ≡ stamped s o → (vs : List Version) → holds s (with_spare o vs) ≡ holds s vs
-holds_below s None other vs = refl
-holds_below s (Some v) other vs = grind (arith, nat_tests, holds_with s v vs)
-
-pub pending_below : (s : ℕ) (o : Option Version) → None ≡ stamped s o → (vs : List Version) → holds_pending s (with_spare o vs) ≡ holds_pending s vs
-pending_below s None other vs = refl
-pending_below s (Some v) other vs = grind (arith, nat_tests, pending_with s v vs)
-
 pub inserted_below : (s x : ℕ) (o : Option Version) → None ≡ stamped s o → (vs : List Version) → with_spare o (with_version (new_version s x) vs) ≡ with_version (new_version s x) (with_spare o vs)
 inserted_below s x None other vs = refl
 inserted_below s x (Some v) other vs = grind (arith, nat_tests, with_with v (new_version s x))
@@ -69,14 +58,6 @@ changed_below f same s None other vs = refl
 changed_below f same s (Some v) other vs = grind (arith, nat_tests, change_below f same s v)
 
 -- where it is stamped s, it is the first version of that stamp
-pub holds_spare : (s : ℕ) (v : Version) (o : Option Version) → Some v ≡ stamped s o → (vs : List Version) → holds s (with_spare o vs) ≡ true
-holds_spare s v None is vs = grind arith
-holds_spare s v (Some w) is vs = grind (arith, nat_tests, holds_with s w vs)
-
-pub pending_spare : (s : ℕ) (v : Version) (o : Option Version) → Some v ≡ stamped s o → (vs : List Version) → holds_pending s (with_spare o vs) ≡ pending v.status
-pending_spare s v None is vs = grind arith
-pending_spare s v (Some w) is vs = grind (arith, nat_tests, pending_with s w vs)
-
 pub changed_spare : (f : Version → Version) → ((v : Version) → (f v).write ≡ v.write) → (s : ℕ) (v : Version) (o : Option Version) → Some v ≡ stamped s o → (vs : List Version) → with_spare (Some (f v)) vs ≡ at_stamp s f (with_spare o vs)
 changed_spare f same s v None is vs = grind arith
 changed_spare f same s v (Some w) is vs = grind (arith, nat_tests, change_spare f same s w)
@@ -90,13 +71,10 @@ pub length_both : (o : Option Version) (vs : List Version) → length (with_spar
 length_both None vs = omega arith
 length_both (Some v) vs = length_with v vs
 
-keeps_no_more : (s : ℕ) (o : Option Version) → taken (kept_spare s o) ≤ taken o
-keeps_no_more s None = omega arith
-keeps_no_more s (Some v) = grind (arith, nat_tests)
-
 pub count_both : (s : ℕ) (o : Option Version) (vs : List Version) → sinks vs ≡ true → cut_count s (with_spare o vs) ≡ cut_count s vs + lost s o
-count_both s o vs h =
-    omega (arith, cut_counts s vs, cut_counts s (with_spare o vs), length_both o vs, length_both (kept_spare s o) (kept s vs), ap length (cut_both s o vs h), keeps_no_more s o)
+count_both s None vs h = omega arith
+count_both s (Some v) vs h =
+    grind (arith, nat_tests, cut_counts s vs, cut_counts s (with_version v vs), length_with v vs, length_both (kept_spare s (Some v)) (kept s vs), ap length (cut_both s (Some v) vs h))
 
 -- the room of a place after a cut
 pub room_after : (s : ℕ) (o : Option Version) → room (kept_spare s o) ≡ room o + lost s o

@@ -1,14 +1,16 @@
 -- What a call on the table below or on a spare place leaves, as what the call leaves of the table
 -- with spare places.
-use Rattle.std.proofs.Common.{◌≡◌, ℕ, ◌+◌, Bool, true, false, cond, eqb, List, Some, None, Ok, Err, Option, Result, sym, refl, ap, ◌∙◌, ⊎_elim, arith, MatchResult}
+use Rattle.std.proofs.Common.{◌≡◌, ℕ, ◌+◌, List, Some, None, Option, Result, sym, refl, ap, ◌∙◌, arith, MatchResult}
 use mathlib.Core.Path.{subst⁻¹, fun_ext}
-use Rattle.std.proofs.lemmas.Bool.{cases_eq}
+use Rattle.std.proofs.lemmas.Bool.Decides.{nat_tests}
+use Rattle.std.proofs.lemmas.Result.{MatchResult-weaker}
+use Rattle.words.specs.Outcome.{accepted}
 use Rattle.words.specs.declared.refusal.Refusal.{Refusal}
 use Rattle.words.specs.declared.version.Version.{Version}
 use Rattle.words.specs.Version.{new_version}
 use Rattle.tables.specs.Versions.{with_version, kept}
-use Rattle.tables.specs.Table.{Table, Sound, Cleared, Only, Inserted, Altered, Cut, put}
-use Rattle.tables.proofs.Lengths.{put_here, put_other, put_same}
+use Rattle.tables.specs.Table.{Table, Sound, Cleared, Only, Inserted, Altered, Cut, put, in_cell}
+use Rattle.tables.proofs.Lengths.{put_same}
 use Rattle.spare.specs.Spare.{no_spares, room, stamped, kept_spare, with_spare, layered}
 use Rattle.spare.proofs.Beside.{inserted_below, changed_below, changed_spare, cut_both, count_both, room_after, no_room}
 
@@ -21,39 +23,35 @@ layered_clear spares spares' t u empty h =
 module _ (spares spares' : ℕ → Option Version) (t u : Table) (c : ℕ) (o : Option Version) (written : spares' ≡ put spares c o) where
   lists : (vs : List Version) → Only t u c vs → (layered spares' u).versions ≡ put (layered spares t).versions c (with_spare o vs)
   lists vs h =
-      fun_ext (λ q.
-      ap (λ (s : ℕ → Option Version). with_spare (s q) (u.versions q)) written ∙
-      ap (λ (f : ℕ → List Version). with_spare (put spares c o q) (f q)) h.versions ∙
-      either (eqb q c) (spares q) (t.versions q) vs)
-    where
-      either : (b : Bool) (p : Option Version) (ws vs : List Version) → with_spare (cond b o p) (cond b vs ws) ≡ cond b (with_spare o vs) (with_spare p ws)
-      either true p ws vs = refl
-      either false p ws vs = refl
+      fun_ext (λ q. grind (arith, nat_tests, ap (λ (s : ℕ → Option Version). s q) written, ap (λ (f : ℕ → List Version). f q) h.versions))
 
   only : (vs ws : List Version) → Only t u c vs → with_spare o vs ≡ ws → Only (layered spares t) (layered spares' u) c ws
   only vs ws h e =
       record { cells = h.cells; versions = lists vs h ∙ ap (put (layered spares t).versions c) e }
 
   free_here : (layered spares' u).free c ≡ u.free c + room o
-  free_here = ap (λ p. u.free c + room p) (ap (λ (s : ℕ → Option Version). s c) written ∙ put_here spares c o)
+  free_here = grind (arith, nat_tests, ap (λ (s : ℕ → Option Version). s c) written)
 
   free_other : (q : ℕ) → (q ≡ c → ⊥) → (layered spares' u).free q ≡ u.free q + room (spares q)
-  free_other q ne = ap (λ p. u.free q + room p) (ap (λ (s : ℕ → Option Version). s q) written ∙ put_other spares c o q ne)
+  free_other q ne = grind (arith, nat_tests, ap (λ (s : ℕ → Option Version). s q) written)
 
 -- a table whose list is as it was
 as_it_was : (t : Table) (c : ℕ) → Only t t c (t.versions c)
 as_it_was t c = record { cells = refl; versions = sym (put_same t.versions c) }
 
--- a call that went below leaves all as it was if it was refused
-carried : (spares : ℕ → Option Version) (t u : Table) (P Q : Type 0) (r : Result ℕ Refusal) → (P → Q) → MatchResult r (λ _. P) (λ _. u ≡ t) → MatchResult r (λ _. Q) (λ _. layered spares u ≡ layered spares t)
-carried spares t u P Q (Ok a) f h = f h
-carried spares t u P Q (Err e) f h = ap (layered spares) h
+-- what was answered for a cell is what stands there
+pub found_is : {A : Type 0} (t : Table) (c : ℕ) (a b : A) → accepted a ≡ in_cell t c (accepted b) → (d : A) → a ≡ d → d ≡ b
+found_is t c a b found d is = grind (arith, nat_tests)
 
 -- below, at a stamp that the spare version does not have
 module _ (spares : ℕ → Option Version) (t u : Table) (c s : ℕ) (other : None ≡ stamped s (spares c)) (r : Result ℕ Refusal) where
+  -- a call that went below leaves all as it was if it was refused
+  carried : {P Q : Type 0} → (P → Q) → MatchResult r (λ _. P) (λ _. u ≡ t) → MatchResult r (λ _. Q) (λ _. layered spares u ≡ layered spares t)
+  carried f h = MatchResult-weaker r h (λ _. f) (λ _. ap (layered spares))
+
   pub layered_insert : (x : ℕ) → MatchResult r (λ _. Inserted t u c s x) (λ _. u ≡ t) → MatchResult r (λ _. Inserted (layered spares t) (layered spares u) c s x) (λ _. layered spares u ≡ layered spares t)
   layered_insert x =
-      carried spares t u (Inserted t u c s x) (Inserted (layered spares t) (layered spares u) c s x) r (λ h.
+      carried (λ h.
       record {
         only = only spares spares t u c (spares c) (sym (put_same spares c)) _ _ h.only (inserted_below s x (spares c) other (t.versions c));
         taken = omega (arith, h.taken);
@@ -63,7 +61,7 @@ module _ (spares : ℕ → Option Version) (t u : Table) (c s : ℕ) (other : No
 
   pub layered_change : (f : Version → Version) → ((v : Version) → (f v).write ≡ v.write) → MatchResult r (λ _. Altered t u c s f) (λ _. u ≡ t) → MatchResult r (λ _. Altered (layered spares t) (layered spares u) c s f) (λ _. layered spares u ≡ layered spares t)
   layered_change f same =
-      carried spares t u (Altered t u c s f) (Altered (layered spares t) (layered spares u) c s f) r (λ h.
+      carried (λ h.
       record {
         only = only spares spares t u c (spares c) (sym (put_same spares c)) _ _ h.only (changed_below f same s (spares c) other (t.versions c));
         free = λ q. ap (λ n. n + room (spares q)) (h.free q);
@@ -86,11 +84,7 @@ module _ (spares spares' : ℕ → Option Version) (t : Table) (c s : ℕ) where
       let list = ap (λ x. with_version x (t.versions c)) changed ∙ changed_spare f same s v (spares c) is (t.versions c) in
       record {
         only = only spares spares' t t c (Some w) written (t.versions c) _ (as_it_was t c) list;
-        free = λ q.
-            ⊎_elim
-            (λ (e : q ≡ c). subst⁻¹ (λ (k : ℕ). (layered spares' t).free k ≡ (layered spares t).free k) e (omega (arith, free_here spares spares' t t c (Some w) written, no_room s v (spares c) is)))
-            (free_other spares spares' t t c (Some w) written q)
-            (cases_eq q c);
+        free = λ q. grind (arith, nat_tests, ap (λ (k : ℕ → Option Version). k q) written, no_room s v (spares c) is);
       }
 
 -- below and in the spare place

@@ -1,13 +1,17 @@
 -- What stands at a position of a sinking list once a version has been put in by its stamp: what
 -- stood there, if it is stamped above; else the new version or what stood before.
-use Rattle.std.proofs.Common.{◌≡◌, ℕ, zero, suc, ◌-◌, ◌<◌, Bool, true, false, leb, List, [], ◌∷◌, sym, refl, ap, ◌∙◌, arith}
+use Rattle.std.proofs.Common.{◌≡◌, ℕ, zero, suc, ◌-◌, ◌<◌, Bool, true, false, leb, List, [], ◌∷◌, refl, arith, nat_lt}
 use native.Mathlib.Numerals.{unary_clauses}
 use Rattle.std.proofs.lemmas.Bool.Decides.{nat_tests}
-use Rattle.words.specs.Outcome.{Outcome, accepted}
+use Rattle.words.specs.Outcome.{Outcome, accepted, refused}
 use Rattle.words.specs.declared.version.Version.{Version}
 use Rattle.tables.specs.Versions.{top, ordered, with_version}
-use Rattle.tables.specs.Table.{Table, Sound, in_cell, version_in, version_answer}
-use Rattle.spare.specs.Spare.{above}
+use Rattle.tables.specs.Table.{Table, Sound, version_in, version_answer}
+
+-- whether a version was answered and is stamped above s
+abbrev pub above : ℕ → Outcome Version → Bool
+above s (accepted v) = nat_lt s v.write
+above s (refused n d) = false
 
 -- a position further on is that position in the rest
 one_on : (w : Version) (ws : List Version) (i : ℕ) → version_in (w ∷ ws) (suc i) ≡ version_in ws i
@@ -42,33 +46,19 @@ module _ (v : Version) where
 -- what a table answers tells what it would answer with the version v put into the list
 module _ (t : Table) (sound : Sound t) (c : ℕ) (within : c < t.cells) (v : Version) where
   abbrev pub beside : ℕ → Outcome Version
-  beside i = in_cell t c (version_in (with_version v (t.versions c)) i)
+  beside i = version_in (with_version v (t.versions c)) i
 
-  -- what is answered for a cell that is there is what its list has
-  listed : (i : ℕ) (o : Outcome Version) → o ≡ version_answer t c i → o ≡ version_in (t.versions c) i
-  listed i o e = grind (arith, nat_tests)
+  pub beside_here : (i : ℕ) (o : Outcome Version) → o ≡ version_answer t c i → above v.write o ≡ true → o ≡ beside i
+  beside_here i o e a = grind (arith, nat_tests, stays_here v top (t.versions c) i (sound.sinking c))
 
-  answered : (i : ℕ) (o : Outcome Version) → version_in (with_version v (t.versions c)) i ≡ o → o ≡ beside i
-  answered i o e = grind (arith, nat_tests)
-
-  is_above : (i : ℕ) (o : Outcome Version) (b : Bool) → o ≡ version_answer t c i → b ≡ above v.write o → above v.write (version_in (t.versions c) i) ≡ b
-  is_above i o b e a = ap (above v.write) (sym (listed i o e)) ∙ sym a
-
-  pub beside_here : (i : ℕ) (o : Outcome Version) → o ≡ version_answer t c i → true ≡ above v.write o → o ≡ beside i
-  beside_here i o e a =
-      answered i o (stays_here v top (t.versions c) i (sound.sinking c) (is_above i o true e a) ∙ sym (listed i o e))
-
-  pub beside_first : (i : ℕ) (o : Outcome Version) → i ≡ 0 → o ≡ version_answer t c i → false ≡ above v.write o → accepted v ≡ beside i
-  beside_first zero o z e a = answered 0 _ (stands_first v (t.versions c) (is_above 0 o false e a))
-  beside_first (suc i) o z e a = absurd (omega arith)
-
-  pub beside_between : (i : ℕ) (o p : Outcome Version) → (i ≡ 0 → ⊥) → o ≡ version_answer t c i → false ≡ above v.write o → p ≡ version_answer t c (i - 1) → true ≡ above v.write p → accepted v ≡ beside i
+  pub beside_between : (i : ℕ) (o p : Outcome Version) → (i ≡ 0 → ⊥) → o ≡ version_answer t c i → above v.write o ≡ false → p ≡ version_answer t c (i - 1) → above v.write p ≡ true → accepted v ≡ beside i
   beside_between zero o p n e a f b = absurd (n refl)
   beside_between (suc i) o p n e a f b =
-      answered (suc i) _ (stands_between v top (t.versions c) i (sound.sinking c) (is_above i p true (simp unary_clauses at f) b) (is_above (suc i) o false e a))
+      let f' = simp unary_clauses at f in
+      grind (arith, nat_tests, stands_between v top (t.versions c) i (sound.sinking c))
 
-  pub beside_after : (i : ℕ) (p : Outcome Version) → (i ≡ 0 → ⊥) → p ≡ version_answer t c (i - 1) → false ≡ above v.write p → p ≡ beside i
+  pub beside_after : (i : ℕ) (p : Outcome Version) → (i ≡ 0 → ⊥) → p ≡ version_answer t c (i - 1) → above v.write p ≡ false → p ≡ beside i
   beside_after zero p n f b = absurd (n refl)
   beside_after (suc i) p n f b =
-      let e = simp unary_clauses at f in
-      answered (suc i) p (moves_on v top (t.versions c) i (sound.sinking c) (is_above i p false e b) ∙ sym (listed i p e))
+      let f' = simp unary_clauses at f in
+      grind (arith, nat_tests, moves_on v top (t.versions c) i (sound.sinking c))

@@ -1,7 +1,6 @@
 -- What one spare place beside each cell makes of a table.
-use Rattle.std.specs.Prelude.{◌≡◌, ℕ, ◌+◌, ◌-◌, Bool, true, false, cond, List, Some, None, Option, ◌==◌, nat_le, nat_lt, slice_index_or, refl}
+use Rattle.std.specs.Prelude.{◌≡◌, ℕ, ◌+◌, ◌-◌, Bool, true, false, cond, List, Some, None, Option, ◌==◌, nat_le, slice_index_or, refl}
 use Rattle.std.proofs.lemmas.Bool.{leb-true}
-use Rattle.words.specs.Outcome.{Outcome, accepted, refused}
 use Rattle.words.specs.declared.version.Version.{Version}
 use Rattle.tables.specs.Versions.{top, sinks, with_version, stays}
 use Rattle.tables.specs.Table.{Table, Sound}
@@ -42,11 +41,6 @@ kept_spare s (Some v) = cond (stays s v) (Some v) None
 -- how many versions a cut at s removes from a place
 abbrev pub lost : ℕ → Option Version → ℕ
 lost s o = taken o - taken (kept_spare s o)
-
--- whether a version was answered and is stamped above s
-abbrev pub above : ℕ → Outcome Version → Bool
-above s (accepted v) = nat_lt s v.write
-above s (refused n d) = false
 
 -- a list with the spare version put in by its stamp
 abbrev pub with_spare : Option Version → List Version → List Version

@@ -1,9 +1,8 @@
 // Questions to any table that the layer needs and no table has as a call.
-ghost use Rattle.std.specs.Prelude.{◌≡◌, ◌&&◌, nat_lt};
+ghost use Rattle.std.specs.Prelude.{◌≡◌, ◌<◌, ◌&&◌, nat_lt};
 ghost use Rattle.words.specs.Outcome.{told};
 ghost use Rattle.tables.specs.Versions.{holds, with_version};
-ghost use Rattle.tables.specs.Table.{in_cell, version_in};
-ghost use Rattle.spare.specs.Spare.{above};
+ghost use Rattle.tables.specs.Table.{version_in};
 
 use tables::VersionTable;
 use words::{Refusal, Version};
@@ -30,31 +29,19 @@ pub(crate) fn version_beside<T: VersionTable>(
     cell: usize,
     at: usize,
 ) -> Result<Version, Refusal>
-    ensures { told result ≡ in_cell (T.meaning table.now) cell (version_in (with_version spare ((T.meaning table.now).versions cell)) at) }
+    requires { cell < (T.meaning table.now).cells }
+    ensures { told result ≡ version_in (with_version spare ((T.meaning table.now).versions cell)) at }
 {
-    if cell >= table.cells() {
-        return Err(Refusal::NoCell);
-    }
     let here = table.version(cell, at);
-    if is_above(&here, spare.write) {
+    if here.is_ok_and(|version| version.write > spare.write) {
         return here;
     }
     if at == 0 {
         return Ok(spare);
     }
-    let before = table.version(cell, at - 1);
-    if is_above(&before, spare.write) {
+    let before = table.version(cell, at - 1)?;
+    if before.write > spare.write {
         return Ok(spare);
     }
-    before
-}
-
-// Whether a version was found and is stamped above the stamp.
-fn is_above(found: &Result<Version, Refusal>, stamp: u64) -> bool
-    ensures { result ≡ above stamp (told found.now) }
-{
-    match found {
-        Ok(version) => version.write > stamp,
-        Err(_) => false,
-    }
+    Ok(before)
 }

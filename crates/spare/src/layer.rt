@@ -2,7 +2,7 @@
 ghost use Rattle.std.specs.Prelude.{◌≡◌, IfOk};
 ghost use Rattle.words.specs.Outcome.{told, accepted};
 ghost use Rattle.tables.specs.Table.{in_cell};
-ghost use Rattle.spare.specs.Spare.{spare_at, layered, layered_sound, one_more, Spared};
+ghost use Rattle.spare.specs.Spare.{spare_at, stamped, layered, layered_sound, one_more, Spared};
 
 use crate::ask::{has_stamp, version_beside};
 use crate::spares::Spares;
@@ -31,12 +31,19 @@ impl<'b, T: VersionTable> SpareLayer<'b, T> {
     // The version in the spare place of a cell, if one is there.
     pub fn spare(&self, cell: usize) -> Result<Option<Version>, Refusal>
         ensures answer { told result ≡ in_cell (T.VersionTable.meaning self.now.below.now) cell (accepted (spare_at self.now.spares.places cell)) }
-        ensures exact { IfOk result (λ o. Spared (T.VersionTable.meaning self.now.below.now) (layered (spare_at self.now.spares.places) (T.VersionTable.meaning self.now.below.now)) cell o) }
+        ensures exact { let t = T.VersionTable.meaning self.now.below.now in IfOk result (λ o. Spared t (layered (spare_at self.now.spares.places) t) cell o) }
     {
         if cell >= self.below.cells() {
             return Err(Refusal::NoCell);
         }
         Ok(self.spares.at(cell))
+    }
+
+    // The spare version of a cell, if it has that stamp.
+    fn stamped(&self, cell: usize, stamp: u64) -> Result<Option<Version>, Refusal>
+        ensures { told result ≡ in_cell (T.VersionTable.meaning self.now.below.now) cell (accepted (stamped stamp (spare_at self.now.spares.places cell))) }
+    {
+        Ok(self.spare(cell)?.filter(|spare| spare.write == stamp))
     }
 }
 
@@ -46,7 +53,7 @@ impl<'b, T: VersionTable> VersionTable for SpareLayer<'b, T> {
     ghost sound = { λ s. layered_sound s.spares.places (T.VersionTable.meaning s.below.now) (T.VersionTable.sound s.below.now) };
 
     fn clear(&mut self) -> u64 {
-        self.spares.clear();
+        self.spares = Spares::none();
         self.below.clear()
     }
 
@@ -65,27 +72,18 @@ impl<'b, T: VersionTable> VersionTable for SpareLayer<'b, T> {
     }
 
     fn version(&self, cell: usize, at: usize) -> Result<Version, Refusal> {
-        match self.spares.at(cell) {
+        match self.spare(cell)? {
             Some(spare) => version_beside(self.below, spare, cell, at),
             None => self.below.version(cell, at),
         }
     }
 
     fn insert(&mut self, cell: usize, stamp: u64, value: u64) -> Result<u64, Refusal> {
-        if cell >= self.below.cells() {
-            return Err(Refusal::NoCell);
-        }
-        match self.spares.at(cell) {
-            Some(spare) => {
-                if spare.write == stamp {
-                    return Err(Refusal::StampTaken);
-                }
-                self.below.insert(cell, stamp, value)
-            }
+        match self.spare(cell)? {
+            Some(spare) if spare.write == stamp => Err(Refusal::StampTaken),
+            Some(_) => self.below.insert(cell, stamp, value),
+            None if has_stamp(self.below, cell, stamp) => Err(Refusal::StampTaken),
             None => {
-                if has_stamp(self.below, cell, stamp) {
-                    return Err(Refusal::StampTaken);
-                }
                 self.spares.put(cell, Version::pending(stamp, value));
                 Ok(0)
             }
@@ -93,11 +91,10 @@ impl<'b, T: VersionTable> VersionTable for SpareLayer<'b, T> {
     }
 
     // Of versions with one stamp the spare one comes first.
+    //
+    // `mark` has this form too: one function for both would take two closures and be no shorter.
     fn raise(&mut self, cell: usize, stamp: u64, to: u64) -> Result<u64, Refusal> {
-        if cell >= self.below.cells() {
-            return Err(Refusal::NoCell);
-        }
-        let Some(mut spare) = self.spares.stamped(cell, stamp) else {
+        let Some(mut spare) = self.stamped(cell, stamp)? else {
             return self.below.raise(cell, stamp, to);
         };
         spare.read = spare.read.max(to);
@@ -106,16 +103,13 @@ impl<'b, T: VersionTable> VersionTable for SpareLayer<'b, T> {
     }
 
     fn mark(&mut self, cell: usize, stamp: u64, ending: Ending) -> Result<u64, Refusal> {
-        if cell >= self.below.cells() {
-            return Err(Refusal::NoCell);
-        }
-        let Some(mut spare) = self.spares.stamped(cell, stamp) else {
+        let Some(mut spare) = self.stamped(cell, stamp)? else {
             return self.below.mark(cell, stamp, ending);
         };
         if !spare.status.is_pending() {
             return Err(Refusal::NoVersion);
         }
-        spare.status = ending.status();
+        spare.status = ending.into();
         self.spares.put(cell, spare);
         Ok(0)
     }

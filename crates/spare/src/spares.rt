@@ -1,16 +1,21 @@
 // The spare places, one for each cell.
 ghost use Rattle.std.specs.Prelude.{◌≡◌, ◌<◌, Some};
 ghost use Rattle.tables.specs.Table.{put};
-ghost use Rattle.spare.specs.Spare.{stored, spare_at, no_spares, taken, room, stamped, kept_spare, lost};
+ghost use Rattle.spare.specs.Spare.{spare_at, no_spares, taken, room, kept_spare, lost};
 
 use tables::stays;
 use words::Version;
 
-// 1,024 places, since no table has more cells. Any versions may stand in them, whatever the table
-// below holds, so that a layer has nothing to keep true and can be the table below another.
+// No table has more cells.
+const PLACES: usize = 1024;
+
+// Any versions may stand in the places, whatever the table below holds, so that a layer has nothing
+// to keep true and can be the table below another.
+//
+// No `impl Model`: contracts read the places as a function of the cell, and a function has no code.
 #[derive(Drop)]
 pub(crate) struct Spares {
-    places: [Option<Version>; 1024],
+    places: [Option<Version>; PLACES],
 }
 
 impl Spares {
@@ -19,62 +24,34 @@ impl Spares {
         ensures { spare_at result.places ≡ no_spares }
     {
         Spares {
-            places: [None; 1024],
+            places: [None; PLACES],
         }
-    }
-
-    // Empties all places.
-    pub(crate) fn clear(&mut self)
-        ensures { spare_at self.new.places ≡ no_spares }
-    {
-        self.places = [None; 1024];
     }
 
     // The spare version of a cell.
     pub(crate) fn at(&self, cell: usize) -> Option<Version>
         ensures { result ≡ spare_at self.now.places cell }
     {
-        match self.places.get(cell) {
-            Some(spare) => stored(*spare),
-            None => None,
-        }
-    }
-
-    // The spare version of a cell, if it has that stamp.
-    pub(crate) fn stamped(&self, cell: usize, stamp: u64) -> Option<Version>
-        ensures { result ≡ stamped stamp (spare_at self.now.places cell) }
-    {
-        let spare = self.at(cell)?;
-        if spare.write == stamp {
-            Some(spare)
-        } else {
-            None
-        }
+        self.places.get(cell).copied().flatten()
     }
 
     // How many versions the place of a cell holds.
     pub(crate) fn taken(&self, cell: usize) -> u64
         ensures { result ≡ taken (spare_at self.now.places cell) }
     {
-        match self.at(cell) {
-            Some(_) => 1,
-            None => 0,
-        }
+        u64::from(self.at(cell).is_some())
     }
 
     // How many versions the place of a cell has room for.
     pub(crate) fn room(&self, cell: usize) -> u64
         ensures { result ≡ room (spare_at self.now.places cell) }
     {
-        match self.at(cell) {
-            Some(_) => 0,
-            None => 1,
-        }
+        1 - self.taken(cell)
     }
 
     // Puts a version into the place of a cell.
     pub(crate) fn put(&mut self, cell: usize, version: Version)
-        requires { cell < 1024 }
+        requires { cell < PLACES }
         ensures { spare_at self.new.places ≡ put (spare_at self.old.places) cell (Some version) }
     {
         self.places[cell] = Some(version);
@@ -83,26 +60,11 @@ impl Spares {
     // Empties the place of a cell if its version does not stay at the stamp, and answers how many
     // versions went.
     pub(crate) fn cut(&mut self, cell: usize, stamp: u64) -> u64
-        requires { cell < 1024 }
+        requires { cell < PLACES }
         ensures answer { result ≡ lost stamp (spare_at self.old.places cell) }
         ensures after { spare_at self.new.places ≡ put (spare_at self.old.places) cell (kept_spare stamp (spare_at self.old.places cell)) }
     {
-        match self.at(cell) {
-            Some(spare) => {
-                if stays(&spare, stamp) {
-                    return 0;
-                }
-                self.places[cell] = None;
-                1
-            }
-            None => 0,
-        }
+        let gone = self.places[cell].take_if(|spare| !stays(spare, stamp));
+        u64::from(gone.is_some())
     }
-}
-
-// What a place holds, as it is; the contract says that its stamp fits 64 bits.
-fn stored(spare: Option<Version>) -> Option<Version>
-    ensures { result ≡ stored spare }
-{
-    spare
 }

@@ -1,41 +1,28 @@
-use Rattle.std.proofs.Common.{refl, ap, arith}
-use Rattle.words.specs.declared.status.Status.{Status}
+use Rattle.std.proofs.Common.{rules, refl, arith}
+use Rattle.std.proofs.lemmas.Bool.Decides.{nat_tests}
 use Rattle.tables.specs.Versions.{marked}
-use Rattle.spare.specs.Spare.{spare_at, layered}
-use Rattle.spare.proofs.Answered.{mark_below, mark_spare, mark_ended}
-use Rattle.spare.proofs.Layered.{layered_change, spare_change}
+use Rattle.spare.specs.Spare.{spare_at, stamped}
+use Rattle.spare.proofs.Beside.{pending_with}
+use Rattle.spare.proofs.Layered.{found_is, layered_change, spare_change}
 use Rattle.spare.proofs.layer.SpareLayerVersionTable.mark.Goals as goal
 
-pub returns-in_default : goal.returns-in_default
-returns-in_default g c =
-    let self = c.args.self.now in
-    let t = g.T.VersionTable.meaning self.below.now in
-    let u = g.T.VersionTable.meaning c.mark.new.self in
-    let spares = spare_at self.spares.places in
-    let other = c.in_default.ensures in
-    record {
-      answer = mark_below spares t c.args.cell c.args.stamp other _ c.mark.ensures.answer;
-      after = layered_change spares t u c.args.cell c.args.stamp other c.mark.result (marked c.args.ending) (λ v. refl) c.mark.ensures.after;
-    }
+pub returns-in_default-clause-answer : goal.returns-in_default-clause-answer
+returns-in_default-clause-answer g c = grind (arith, nat_tests, pending_with)
 
-pub returns-then-not-is_pending : goal.returns-then-not-is_pending
-returns-then-not-is_pending g c =
-    let self = c.args.self.now in
-    let t = g.T.VersionTable.meaning self.below.now in
-    let spares = spare_at self.spares.places in
-    record {
-      answer = mark_ended spares t c.args.cell c.args.stamp (omega (arith, c.cells.ensures)) c.in-Some.spare c.in-Some.ensures c.if-not-is_pending.ensures;
-      after = refl {a = layered spares t};
-    }
+pub returns-in_default-clause-after : goal.returns-in_default-clause-after
+returns-in_default-clause-after g c = search (rules, layered_change, found_is)
 
-pub returns : goal.returns
-returns g c =
-    let self = c.args.self.now in
-    let t = g.T.VersionTable.meaning self.below.now in
-    let spares = spare_at self.spares.places in
+pub returns-then-not-is_pending-clause-answer : goal.returns-then-not-is_pending-clause-answer
+returns-then-not-is_pending-clause-answer g c = grind (arith, nat_tests, pending_with)
+
+pub returns-clause-answer : goal.returns-clause-answer
+returns-clause-answer g c = grind (arith, nat_tests, pending_with)
+
+pub returns-clause-after : goal.returns-clause-after
+returns-clause-after g c =
+    let t = g.T.VersionTable.meaning c.args.self.now.below.now in
+    let spares = spare_at c.args.self.now.spares.places in
+    let o = stamped c.args.stamp (spares c.args.cell) in
     let v = c.in-Some.spare in
-    let is = c.in-Some.ensures in
-    record {
-      answer = mark_spare spares t c.args.cell c.args.stamp (omega (arith, c.cells.ensures)) v is c.if-not-is_pending.ensures;
-      after = spare_change spares (spare_at c.put.new.self.places) t c.args.cell c.args.stamp (marked c.args.ending) (λ v. refl) v _ (ap (λ (k : Status). record { write = v.write; read = v.read; status = k; value = v.value }) c.status-spare.ensures) is c.put.ensures;
-    }
+    let is = found_is t c.args.cell _ o c.in_ok-spare.ensures _ c.in-Some.is in
+    spare_change spares _ t c.args.cell c.args.stamp (marked c.args.ending) (λ v. refl) v _ (cc) is c.put.ensures

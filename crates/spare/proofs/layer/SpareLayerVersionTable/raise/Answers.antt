@@ -1,30 +1,25 @@
-use Rattle.std.proofs.Common.{ℕ, max, refl, ap, arith}
+use Rattle.std.proofs.Common.{rules, refl, arith}
+use Rattle.std.proofs.lemmas.Bool.Decides.{nat_tests}
 use Rattle.tables.specs.Versions.{raised}
-use Rattle.spare.specs.Spare.{spare_at}
-use Rattle.spare.proofs.Answered.{raise_below, raise_spare}
-use Rattle.spare.proofs.Layered.{layered_change, spare_change}
+use Rattle.spare.specs.Spare.{spare_at, stamped}
+use Rattle.spare.proofs.Beside.{holds_with}
+use Rattle.spare.proofs.Layered.{found_is, layered_change, spare_change}
 use Rattle.spare.proofs.layer.SpareLayerVersionTable.raise.Goals as goal
 
-pub returns-in_default : goal.returns-in_default
-returns-in_default g c =
-    let self = c.args.self.now in
-    let t = g.T.VersionTable.meaning self.below.now in
-    let u = g.T.VersionTable.meaning c.raise.new.self in
-    let spares = spare_at self.spares.places in
-    let other = c.in_default.ensures in
-    record {
-      answer = raise_below spares t c.args.cell c.args.stamp other _ c.raise.ensures.answer;
-      after = layered_change spares t u c.args.cell c.args.stamp other c.raise.result (raised c.args.to) (λ v. refl) c.raise.ensures.after;
-    }
+pub returns-in_default-clause-answer : goal.returns-in_default-clause-answer
+returns-in_default-clause-answer g c = grind (arith, nat_tests, holds_with)
 
-pub returns : goal.returns
-returns g c =
-    let self = c.args.self.now in
-    let t = g.T.VersionTable.meaning self.below.now in
-    let spares = spare_at self.spares.places in
+pub returns-in_default-clause-after : goal.returns-in_default-clause-after
+returns-in_default-clause-after g c = search (rules, layered_change, found_is)
+
+pub returns-clause-answer : goal.returns-clause-answer
+returns-clause-answer g c = grind (arith, nat_tests, holds_with)
+
+pub returns-clause-after : goal.returns-clause-after
+returns-clause-after g c =
+    let t = g.T.VersionTable.meaning c.args.self.now.below.now in
+    let spares = spare_at c.args.self.now.spares.places in
+    let o = stamped c.args.stamp (spares c.args.cell) in
     let v = c.in-Some.spare in
-    let is = c.in-Some.ensures in
-    record {
-      answer = raise_spare spares t c.args.cell c.args.stamp (omega (arith, c.cells.ensures)) v is;
-      after = spare_change spares (spare_at c.put.new.self.places) t c.args.cell c.args.stamp (raised c.args.to) (λ v. refl) v _ (ap (λ (r : ℕ). record { write = v.write; read = r; status = v.status; value = v.value }) {y = max v.read c.args.to} c.max.ensures) is c.put.ensures;
-    }
+    let is = found_is t c.args.cell _ o c.in_ok-spare.ensures _ c.in-Some.is in
+    spare_change spares _ t c.args.cell c.args.stamp (raised c.args.to) (λ v. refl) v _ (cc) is c.put.ensures
