@@ -108,7 +108,7 @@ impl<'a> Links<'a> {
         if !version.status.is_pending() {
             return Err(Refusal::NoVersion);
         }
-        version.status = ending.status();
+        version.status = ending.into();
         self.rewrite(at, version);
         Ok(0)
     }

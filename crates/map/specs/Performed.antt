@@ -11,6 +11,7 @@ use Rattle.workers.specs.declared.clock.Tick.TheVariants.{Begin as Begins, Pulse
 use Rattle.workers.specs.declared.steps.Step.{Step}
 use Rattle.workers.specs.declared.steps.Step.TheVariants.{Install as Installs, Stamp as Stamps, Check as Checks}
 use Rattle.map.specs.declared.inner.Inner.{Inner}
+use Rattle.map.specs.declared.plate.PlateMap.{PlateMap}
 use Rattle.map.specs.Plate.{plate}
 
 -- the answer and the whole model afterwards are the rules'; the table made the steps of its own contract;
@@ -29,3 +30,8 @@ abbrev pub step_call : Step → ℕ → Call
 step_call Installs w = Install w
 step_call Stamps w = Stamp w
 step_call Checks w = Check w
+
+-- what a call of a map makes of the map, by what its table means
+abbrev pub Did : {T : Type 0} → (T → Table) → PlateMap T → Call → Outcome ℕ → PlateMap T → Type 0
+Did meaning m call answer n =
+    Performed (meaning m.table.now) m.crew.inner call answer (meaning n.table.now) n.crew.inner

@@ -4,6 +4,7 @@ use Rattle.tables.specs.Table.{Table}
 use Rattle.rules.specs.Model.{Worker, Model, new_worker}
 use Rattle.rules.specs.Stamps.{timestamp}
 use Rattle.map.specs.declared.inner.Inner.{Inner}
+use Rattle.map.specs.declared.plate.PlateMap.{PlateMap}
 
 -- the worker in each place; past the last place a worker before its first call
 abbrev pub seated : List Worker → ℕ → Worker
@@ -21,3 +22,7 @@ plate t i =
       lists = t.versions;
       commits = i.commits;
     }
+
+-- the model of a map whose table means what meaning says
+abbrev pub model_of : {T : Type 0} → (T → Table) → PlateMap T → Model
+model_of meaning m = plate (meaning m.table.now) m.crew.inner

@@ -2,7 +2,7 @@
 ghost use Rattle.std.specs.Prelude.{◌≡◌, replicate, IfOk, vec_len};
 ghost use Rattle.rules.specs.Model.{new_worker, new_map, workers_of};
 ghost use Rattle.tables.specs.Table.{Cleared};
-ghost use Rattle.map.specs.Plate.{plate};
+ghost use Rattle.map.specs.Plate.{model_of};
 
 use crate::crew::Crew;
 use crate::inner::Inner;
@@ -39,7 +39,7 @@ impl<'t, T: VersionTable> PlateMap<'t, T> {
         table: &'t mut T,
         workers: u64,
     ) -> Result<PlateMap<'t, T>, AllocError>
-        ensures { IfOk result (λ m. Cleared (T.meaning table.old) (T.meaning m.table.now) × (plate (T.meaning m.table.now) m.crew.inner ≡ new_map workers (T.meaning table.old).cells)) }
+        ensures { IfOk result (λ m. Cleared (T.meaning table.old) (T.meaning m.table.now) × (model_of T.meaning m ≡ new_map workers (T.meaning table.old).cells)) }
     {
         let crew = Crew::new(heap, workers)?;
         table.clear();

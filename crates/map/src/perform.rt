@@ -1,7 +1,8 @@
 // A call as a value, performed.
+ghost use Rattle.std.specs.Prelude.{[], ◌∷◌};
 ghost use Rattle.words.specs.Outcome.{told};
-ghost use Rattle.map.specs.Performed.{Performed};
-ghost use Rattle.map.specs.Events.{Longer};
+ghost use Rattle.map.specs.Performed.{Did};
+ghost use Rattle.map.specs.Events.{GoesOn};
 
 use crate::plate::PlateMap;
 use rules::Call;
@@ -10,7 +11,7 @@ use words::Refusal;
 
 impl<'t, T: VersionTable> PlateMap<'t, T> {
     fn dispatch(&mut self, call: Call) -> Result<u64, Refusal>
-        ensures { Performed (T.meaning self.old.table.now) self.old.crew.inner call (told result) (T.meaning self.new.table.now) self.new.crew.inner }
+        ensures { Did T.meaning self.old call (told result) self.new }
     {
         match call {
             Call::Begin { worker, units } => self.begin(worker, units),
@@ -39,8 +40,8 @@ impl<'t, T: VersionTable> PlateMap<'t, T> {
     // Performs a call. A run followed by it is the run longer by the call's event, so the law holds of every
     // list of calls, however each was chosen.
     pub(crate) fn perform(&mut self, call: Call) -> Result<u64, Refusal>
-        ensures performed { Performed (T.meaning self.old.table.now) self.old.crew.inner call (told result) (T.meaning self.new.table.now) self.new.crew.inner }
-        ensures longer { Longer (T.meaning self.old.table.now) self.old.crew.inner call (told result) (T.meaning self.new.table.now) self.new.crew.inner }
+        ensures performed { Did T.meaning self.old call (told result) self.new }
+        ensures longer { GoesOn T.meaning self.old (call ∷ []) (result ∷ []) self.new }
     {
         self.dispatch(call)
     }

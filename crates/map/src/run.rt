@@ -1,9 +1,6 @@
 // A list of calls on a map, and the law of runs.
-ghost use Rattle.std.specs.Prelude.{◌≡◌, ℕ, List, length, IfOk};
-ghost use Rattle.law.specs.History.{Event};
-ghost use Rattle.law.specs.Run.{Run};
-ghost use Rattle.map.specs.Plate.{plate};
-ghost use Rattle.map.specs.Events.{with_events, Upheld};
+ghost use Rattle.std.specs.Prelude.{◌≡◌, length, IfOk};
+ghost use Rattle.map.specs.Events.{GoesOn, Upheld};
 
 use crate::plate::PlateMap;
 use crate::ran::Ran;
@@ -19,7 +16,7 @@ impl<'t, T: VersionTable> PlateMap<'t, T> {
         heap: Global,
         calls: &[Call],
     ) -> Result<Vec<Result<u64, Refusal>>, AllocError>
-        ensures { IfOk result (λ v. (length v.items ≡ length calls.now) × ((workers cells : ℕ) (es : List Event) → Run workers cells es (T.meaning self.old.table.now) (plate (T.meaning self.old.table.now) self.old.crew.inner) → Run workers cells (with_events calls.now v.items es) (T.meaning self.new.table.now) (plate (T.meaning self.new.table.now) self.new.crew.inner))) }
+        ensures { IfOk result (λ v. (length v.items ≡ length calls.now) × GoesOn T.meaning self.old calls.now v.items self.new) }
     {
         let mut answers = Vec::with_capacity(heap, calls.len())?;
         for call in calls {
@@ -37,7 +34,7 @@ impl<'t, T: VersionTable> PlateMap<'t, T> {
         workers: u64,
         calls: &[Call],
     ) -> Result<Ran<'t, T>, AllocError>
-        ensures { IfOk result (λ x. Upheld workers (T.meaning table.old).cells calls.now x.answers.items (T.meaning x.map.table.now) x.map.crew.inner) }
+        ensures { IfOk result (λ x. Upheld T.meaning workers (T.meaning table.old).cells calls.now x.answers.items x.map) }
     {
         let mut map = PlateMap::new(heap, table, workers)?;
         let answers = map.perform_all(heap, calls)?;

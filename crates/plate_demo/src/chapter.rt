@@ -1,5 +1,5 @@
 // The scan, played on any table.
-use crate::report::{print_answer, print_call, print_list};
+use crate::report::{Told, print_list};
 use crate::scan::{CLEARING, READINGS, REFUSALS, UPKEEP, filling};
 use std::io;
 use tables::{TableCall, VersionTable, perform};
@@ -37,9 +37,8 @@ fn play<T: VersionTable>(
 }
 
 fn play_call<T: VersionTable>(rt: &HostRuntime, table: &mut T, call: TableCall) -> io::Result<()> {
-    print!(rt; "    ")?;
-    print_call(rt, call)?;
-    print_answer(rt, perform(table, call))?;
+    let told = Told(perform(table, call));
+    println!(rt; "    {call}: {told}")?;
     match cell_of(call) {
         Some(cell) => print_list(rt, table, cell),
         None => Ok(()),

@@ -101,7 +101,7 @@ impl Row {
         if !version.status.is_pending() {
             return Err(Refusal::NoVersion);
         }
-        version.status = ending.status();
+        version.status = ending.into();
         self.replace(at, version);
         Ok(0)
     }
