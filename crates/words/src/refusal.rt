@@ -35,6 +35,7 @@ pub enum Refusal {
     BadLine(u64),
 }
 
+// Number and detail are two halves of a refusal, so neither is a conversion.
 impl Refusal {
     pub fn number(self) -> u64
         ensures { result ≡ number self }

@@ -15,7 +15,7 @@ const LAST_CLOCK: u64 = 1125899906842623;
 const LONGEST: u64 = 36000000000;
 
 // The calls by which time goes on.
-#[derive(Clone, Copy)]
+#[derive(Clone, Copy, Debug, PartialEq, Eq)]
 pub enum Tick {
     Begin,
     Pulse,

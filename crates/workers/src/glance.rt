@@ -7,7 +7,7 @@ use crate::stage::Stage;
 use crate::worker::Worker;
 use words::Refusal;
 
-#[derive(Clone, Copy)]
+#[derive(Clone, Copy, Debug, PartialEq, Eq)]
 pub enum Glance {
     // A look from a floor.
     Look(u64),

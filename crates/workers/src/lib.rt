@@ -1,7 +1,8 @@
 // One worker of a map: its clock, the sets of the pass that it runs, and what each of its calls does to it
 // and to the table.
 //
-// A call is told the worker's seat, which is its number. Nothing here knows of other workers.
+// A call is told the worker's seat, which is its number: a worker that kept it would have to promise in each
+// call that it stays. Nothing here knows of other workers.
 #![tactic(auto)]
 
 mod clock;

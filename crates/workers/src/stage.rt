@@ -1,6 +1,6 @@
 // What a worker is doing; the sets of a pass stand beside it.
 
-#[derive(Clone, Copy)]
+#[derive(Clone, Copy, Debug, PartialEq, Eq)]
 pub enum Stage {
     Idle,
     Open,
