@@ -1,8 +1,8 @@
 // Questions to any table that the layer needs and no table has as a call.
-ghost use Rattle.std.specs.Prelude.{◌≡◌, ◌<◌, ◌&&◌, nat_lt};
+ghost use Rattle.std.specs.Prelude.{◌≡◌, ◌&&◌, nat_lt};
 ghost use Rattle.words.specs.Outcome.{told};
 ghost use Rattle.tables.specs.Versions.{holds, with_version};
-ghost use Rattle.tables.specs.Table.{version_in};
+ghost use Rattle.tables.specs.Table.{in_cell, version_in};
 
 use tables::VersionTable;
 use words::{Refusal, Version};
@@ -29,9 +29,11 @@ pub(crate) fn version_beside<T: VersionTable>(
     cell: usize,
     at: usize,
 ) -> Result<Version, Refusal>
-    requires { cell < (T.meaning table.now).cells }
-    ensures { told result ≡ version_in (with_version spare ((T.meaning table.now).versions cell)) at }
+    ensures { told result ≡ in_cell (T.meaning table.now) cell (version_in (with_version spare ((T.meaning table.now).versions cell)) at) }
 {
+    if cell >= table.cells() {
+        return Err(Refusal::NoCell);
+    }
     let here = table.version(cell, at);
     if here.is_ok_and(|version| version.write > spare.write) {
         return here;

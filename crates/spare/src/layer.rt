@@ -72,7 +72,7 @@ impl<'b, T: VersionTable> VersionTable for SpareLayer<'b, T> {
     }
 
     fn version(&self, cell: usize, at: usize) -> Result<Version, Refusal> {
-        match self.spare(cell)? {
+        match self.spares.at(cell) {
             Some(spare) => version_beside(self.below, spare, cell, at),
             None => self.below.version(cell, at),
         }

@@ -8,7 +8,7 @@ loop-call-preserved g c = (
   search rules,
   search rules,
   goes_on_push g.T.VersionTable.meaning c.args.self.now c.loop-call.self c.args.calls.now (vec_items c.loop-call.answers) c.loop-call.call-index c.perform-answer.new.self
-  (vec_items c.push_reserved.new.self) (Begin 0 0) c.perform-answer.result (search rules) (search rules) c.loop-call-test.true c.loop-call.invariant.2 c.perform-answer.ensures.longer,
+      (vec_items c.push_reserved.new.self) (Begin 0 0) c.perform-answer.result (search rules) (search rules) c.loop-call-test.true c.loop-call.invariant.2 c.perform-answer.ensures.longer,
 )
 
 pub returns : goal.returns
