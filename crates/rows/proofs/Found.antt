@@ -1,59 +1,54 @@
--- The two searches of a row, step by step, and what finding a stamp tells of the calls.
-use Rattle.std.proofs.Common.{◌≡◌, ℕ, zero, suc, ◌+◌, ◌<◌, ◌≤◌, true, false, List, [], ◌∷◌, length, get_or, take, drop, set, refl, ap, ◌∙◌, arith}
-use Rattle.std.specs.List.{insert}
-use Rattle.std.proofs.lemmas.List.{take_more, at_drop_more, at_drop_all}
+-- Where a stamp stands in a list, or would stand, and what that tells of the calls.
+use Rattle.std.proofs.Common.{◌≡◌, ℕ, zero, suc, ◌+◌, ◌<◌, ◌≤◌, true, ◌&&◌, leb, ltb, eqb, List, [], ◌∷◌, length, get_or, set, position, is_some, Some, refl, ap, ◌∙◌, arith}
+use Rattle.std.specs.List.{insert, prefix_len, position_or_len}
+use Rattle.std.specs.List.Sorted.{IsPartitionedBy}
 use Rattle.std.proofs.lemmas.Bool.Decides.{nat_tests}
+use Rattle.std.proofs.lemmas.Option.{cond_some}
 use Rattle.words.specs.Status.{pending}
 use Rattle.words.specs.declared.version.Version.{Version}
 use Rattle.words.specs.Version.{absent}
-use Rattle.tables.specs.Versions.{holds, holds_pending, with_version, at_stamp}
-use Rattle.tables.proofs.Holds.{holds_append}
-use Rattle.rows.specs.Search.{place, First}
+use Rattle.tables.specs.Versions.{ordered, holds, holds_pending, with_version, at_stamp}
 
-pub find_more : (s : ℕ) (vs : List Version) (i : ℕ) → i < length vs → holds s (take i vs) ≡ false → ((get_or vs i absent).write ≡ s → ⊥) → holds s (take (i + 1) vs) ≡ false
-find_more s vs i l h n = ap (holds s) (take_more vs i absent l) ∙ grind (arith, nat_tests, holds_append s (take i vs) (get_or vs i absent ∷ []))
+-- no stamp of a sinking list is above its bound
+below : (n : ℕ) (vs : List Version) → ordered leb n vs ≡ true → (j : ℕ) (d : Version) → j < length vs → (get_or vs j d).write ≤ n
+below n [] h j d l = absurd (omega arith)
+below n (v ∷ vs) h zero d l = grind (arith, nat_tests)
+below n (v ∷ vs) h (suc j) d l = grind (arith, nat_tests, below v.write vs)
 
-module _ (s : ℕ) (vs : List Version) (i : ℕ) (inv : i + place s (drop i vs) ≡ place s vs) where
-  pub place_more : i < length vs → s < (get_or vs i absent).write → (i + 1) + place s (drop (i + 1) vs) ≡ place s vs
-  place_more l h = grind (arith, nat_tests, at_drop_more (place s) vs i absent l)
+-- in a sinking list those above a stamp stand in front
+pub sinks_parts : (s n : ℕ) (vs : List Version) → ordered leb n vs ≡ true → IsPartitionedBy (λ v. ltb s v.write) vs
+sinks_parts s n [] h i j d a l t = absurd (omega arith)
+sinks_parts s n (v ∷ vs) h zero zero d a l t = t
+sinks_parts s n (v ∷ vs) h zero (suc j) d a l t = grind (arith, nat_tests, below v.write vs)
+sinks_parts s n (v ∷ vs) h (suc i) zero d a l t = absurd (omega arith)
+sinks_parts s n (v ∷ vs) h (suc i) (suc j) d a l t = grind (arith, nat_tests, sinks_parts s v.write vs)
 
-  pub place_stop : i < length vs → (get_or vs i absent).write ≤ s → i ≡ place s vs
-  place_stop l h = grind (arith, nat_tests, at_drop_more (place s) vs i absent l)
-
-  pub place_end : length vs ≤ i → i ≡ place s vs
-  place_end l = grind (arith, at_drop_all (place s) vs i l)
-
--- a stamp that was found is held
-pub found_holds : {s : ℕ} {vs : List Version} {i : ℕ} → First s vs i → holds s vs ≡ true
-found_holds {s} {vs} {i} f = held_at s vs i f.within f.here
-  where
-    held_at : (s : ℕ) (vs : List Version) (i : ℕ) → i < length vs → (get_or vs i absent).write ≡ s → holds s vs ≡ true
-    held_at s [] i l e = absurd (omega arith)
-    held_at s (v ∷ vs) zero l e = grind (arith, nat_tests)
-    held_at s (v ∷ vs) (suc i) l e = grind (arith, nat_tests, held_at s vs i (omega arith) e)
-
--- a change of the first version stamped s is a change at its position
-pub found_changed : {s : ℕ} {vs : List Version} {i : ℕ} → First s vs i → (f : Version → Version) → at_stamp s f vs ≡ set vs i (f (get_or vs i absent))
-found_changed {s} {vs} {i} found f = go s vs i found.within found.here found.before
-  where
-    go : (s : ℕ) (vs : List Version) (i : ℕ) → i < length vs → (get_or vs i absent).write ≡ s → holds s (take i vs) ≡ false → at_stamp s f vs ≡ set vs i (f (get_or vs i absent))
-    go s [] i l e b = absurd (omega arith)
-    go s (v ∷ vs) zero l e b = grind (arith, nat_tests)
-    go s (v ∷ vs) (suc i) l e b = grind (arith, nat_tests, go s vs i (omega arith) e)
-
-pub found_pending : {s : ℕ} {vs : List Version} {i : ℕ} → First s vs i → holds_pending s vs ≡ pending (get_or vs i absent).status
-found_pending {s} {vs} {i} found = go s vs i found.within found.here found.before
-  where
-    go : (s : ℕ) (vs : List Version) (i : ℕ) → i < length vs → (get_or vs i absent).write ≡ s → holds s (take i vs) ≡ false → holds_pending s vs ≡ pending (get_or vs i absent).status
-    go s [] i l e b = absurd (omega arith)
-    go s (v ∷ vs) zero l e b = grind (arith, nat_tests)
-    go s (v ∷ vs) (suc i) l e b = grind (arith, nat_tests, go s vs i (omega arith) e)
-
-pub place_le : (s : ℕ) (vs : List Version) → place s vs ≤ length vs
-place_le s [] = omega arith
-place_le s (v ∷ vs) = grind (arith, nat_tests, place_le s vs)
-
--- putting a version in by its stamp is putting it in at its place
-pub with_version_is : (v : Version) (vs : List Version) → with_version v vs ≡ insert vs (place v.write vs) v
+-- putting a version in by its stamp is putting it in behind those that are stamped above it
+pub with_version_is : (v : Version) (vs : List Version) → with_version v vs ≡ insert vs (prefix_len (λ w. ltb v.write w.write) vs) v
 with_version_is v [] = refl
-with_version_is v (w ∷ ws) = grind (arith, nat_tests, with_version_is v ws)
+with_version_is v (w ∷ ws) = grind (arith, nat_tests, later, with_version_is v ws)
+  where
+    later : (i : ℕ) → insert (w ∷ ws) (1 + i) v ≡ w ∷ insert ws i v
+    later i = let e : 1 + i ≡ suc i = omega arith in ap (λ k. insert (w ∷ ws) k v) e
+
+-- where the first version stamped s stands, or the length
+abbrev first : ℕ → List Version → ℕ
+first s vs = position_or_len (λ v. eqb v.write s) vs
+
+-- a stamp is held where it is found
+pub held_is : (s : ℕ) (vs : List Version) → holds s vs ≡ is_some (position (λ v. eqb v.write s) vs)
+held_is s [] = refl
+held_is s (v ∷ vs) = grind (arith, nat_tests, held_is s vs)
+
+-- and it is pending where the version found is
+pub pending_is : (s : ℕ) (vs : List Version) → holds_pending s vs ≡ (holds s vs && pending (get_or vs (first s vs) absent).status)
+pending_is s [] = refl
+pending_is s (v ∷ vs) = grind (arith, nat_tests, pending_is s vs)
+
+-- a change of the first version stamped s is a change where it stands
+pub changed_is : (s : ℕ) (f : Version → Version) (vs : List Version) (i : ℕ) → position (λ v. eqb v.write s) vs ≡ Some i → at_stamp s f vs ≡ set vs i (f (get_or vs i absent))
+changed_is s f vs i found = go vs ∙ ap (λ k. set vs k (f (get_or vs k absent))) (cond_some _ _ _ found).1
+  where
+    go : (vs : List Version) → at_stamp s f vs ≡ set vs (first s vs) (f (get_or vs (first s vs) absent))
+    go [] = refl
+    go (v ∷ vs) = grind (arith, nat_tests, go vs)

@@ -1,4 +1,4 @@
 pub mod Found
-pub mod Fronts
+pub mod Written
 pub mod Eight
 pub mod Chosen

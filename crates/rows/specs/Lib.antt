@@ -1,4 +1,3 @@
-pub mod Search
 pub mod Row
 pub mod Places
 pub mod Rows

@@ -1,16 +1,15 @@
-// One row: the versions of one cell.
-ghost use Rattle.std.specs.Prelude.{◌≡◌, ◌≤◌, true, length, take};
+// One row: the versions of one cell, in fixed memory.
+ghost use Rattle.std.specs.Prelude.{◌≡◌, ◌≤◌, true, length};
 ghost use Rattle.tables.specs.Versions.{sinks};
 
+use arrayvec::ArrayVec;
 use words::Version;
 
-// The first `len` of the versions are the cell's list, newest first; what stands behind them is
-// left over from earlier and means nothing.
-#[derive(Clone, Copy)]
+// Newest first. The facts are ghost fields and no `impl Model`: the law `sound` of every table reads
+// `sinking` from each row's value, and a view would hide it.
+#[derive(Drop)]
 pub(crate) struct Row {
-    pub(crate) versions: [Version; 8],
-    pub(crate) len: usize,
-    ghost full: { length versions ≡ 8 },
-    ghost short: { len ≤ 8 },
-    ghost sinking: { sinks (take len versions) ≡ true },
+    pub(crate) versions: ArrayVec<Version, 8>,
+    ghost short: { length versions.items ≤ 8 },
+    ghost sinking: { sinks versions.items ≡ true },
 }

@@ -1,31 +1,23 @@
-// Where in a list of versions a stamp stands, or would stand.
-ghost use Rattle.std.specs.Prelude.{◌≡◌, is_some, IfSome};
-ghost use Rattle.tables.specs.Versions.{holds};
-ghost use Rattle.rows.specs.Search.{place, First};
+// Where in a row a stamp stands, or would stand.
+ghost use Rattle.std.specs.Prelude.{◌≡◌, ◌≤◌, ◌==◌, nat_lt, length, position};
+ghost use Rattle.std.specs.List.{prefix_len};
+ghost use Rattle.rows.specs.Row.{row_list};
 
-use words::Version;
+use crate::row::Row;
 
-// The position of the first version with that stamp.
-pub(crate) fn find(versions: &[Version], stamp: u64) -> Option<usize>
-    ensures test { is_some result ≡ holds stamp versions.now }
-    ensures found { IfSome result (λ i. First stamp versions.now i) }
-{
-    for (i, version) in versions.iter().enumerate() {
-        if version.write == stamp {
-            return Some(i);
-        }
+impl Row {
+    // The position of the first version with that stamp.
+    pub(crate) fn find(&self, stamp: u64) -> Option<usize>
+        ensures { result ≡ position (λ v. v.write == stamp) (row_list self.now) }
+    {
+        self.versions.iter().position(|v| v.write == stamp)
     }
-    None
-}
 
-// How many versions at the front are stamped above the stamp: the position at which it would stand.
-pub(crate) fn place_of(versions: &[Version], stamp: u64) -> usize
-    ensures { result ≡ place stamp versions.now }
-{
-    for (i, version) in versions.iter().enumerate() {
-        if version.write <= stamp {
-            return i;
-        }
+    // How many versions at the front are stamped above the stamp: the position at which it would stand.
+    pub(crate) fn place_of(&self, stamp: u64) -> usize
+        ensures value { result ≡ prefix_len (λ v. nat_lt stamp v.write) (row_list self.now) }
+        ensures bound { result ≤ length (row_list self.now) }
+    {
+        self.versions.partition_point(|v| v.write > stamp)
     }
-    versions.len()
 }

@@ -1,10 +1,12 @@
 // The row table, as a version table.
-ghost use Rattle.std.specs.Prelude.{◌≡◌};
+ghost use Rattle.std.specs.Prelude.{◌≡◌, nat_lt, if◌then◌else◌};
+ghost use Rattle.words.specs.declared.refusal.Refusal.TheVariants.{NoCell};
 ghost use Rattle.tables.specs.Table.{cleared};
 ghost use Rattle.rows.specs.Places.{eight_places, EightEach};
 ghost use Rattle.rows.specs.Rows.{row_lists, rows_sound};
 
 use crate::row::Row;
+use std::array;
 use tables::VersionTable;
 use words::{Ending, Refusal, Version};
 
@@ -24,7 +26,7 @@ impl RowTable {
         ensures { eight_places 128 (row_lists result.rows) ≡ eight_places 128 (cleared 128) }
     {
         RowTable {
-            rows: [Row::first(); 128],
+            rows: array::from_fn(|_| Row::first()),
         }
     }
 
@@ -37,14 +39,24 @@ impl RowTable {
     }
 }
 
+// The number of the cell's row, where there is such a cell.
+fn row_of(cell: usize) -> Result<usize, Refusal>
+    ensures { result ≡ (if nat_lt cell 128 then Ok cell else Err NoCell) }
+{
+    if cell < CELLS {
+        Ok(cell)
+    } else {
+        Err(Refusal::NoCell)
+    }
+}
+
 impl VersionTable for RowTable {
     ghost meaning = { λ t. eight_places 128 (row_lists t.rows) };
 
     ghost sound = { λ t. rows_sound t.rows };
 
     fn clear(&mut self) -> u64 {
-        let first = Row::first();
-        self.rows = [first; 128];
+        *self = RowTable::new();
         0
     }
 
@@ -53,51 +65,30 @@ impl VersionTable for RowTable {
     }
 
     fn free_places(&self, cell: usize) -> Result<u64, Refusal> {
-        if cell >= CELLS {
-            return Err(Refusal::NoCell);
-        }
-        Ok(PLACES - self.rows[cell].len() as u64)
+        Ok(PLACES - self.rows[row_of(cell)?].len() as u64)
     }
 
     fn length(&self, cell: usize) -> Result<u64, Refusal> {
-        if cell >= CELLS {
-            return Err(Refusal::NoCell);
-        }
-        Ok(self.rows[cell].len() as u64)
+        Ok(self.rows[row_of(cell)?].len() as u64)
     }
 
     fn version(&self, cell: usize, at: usize) -> Result<Version, Refusal> {
-        if cell >= CELLS {
-            return Err(Refusal::NoCell);
-        }
-        self.rows[cell].version(at)
+        self.rows[row_of(cell)?].version(at)
     }
 
     fn insert(&mut self, cell: usize, stamp: u64, value: u64) -> Result<u64, Refusal> {
-        if cell >= CELLS {
-            return Err(Refusal::NoCell);
-        }
-        self.rows[cell].insert(stamp, value)
+        self.rows[row_of(cell)?].insert(stamp, value)
     }
 
     fn raise(&mut self, cell: usize, stamp: u64, to: u64) -> Result<u64, Refusal> {
-        if cell >= CELLS {
-            return Err(Refusal::NoCell);
-        }
-        self.rows[cell].raise(stamp, to)
+        self.rows[row_of(cell)?].raise(stamp, to)
     }
 
     fn mark(&mut self, cell: usize, stamp: u64, ending: Ending) -> Result<u64, Refusal> {
-        if cell >= CELLS {
-            return Err(Refusal::NoCell);
-        }
-        self.rows[cell].mark(stamp, ending)
+        self.rows[row_of(cell)?].mark(stamp, ending)
     }
 
     fn cut(&mut self, cell: usize, stamp: u64) -> Result<u64, Refusal> {
-        if cell >= CELLS {
-            return Err(Refusal::NoCell);
-        }
-        Ok(self.rows[cell].cut(stamp))
+        Ok(self.rows[row_of(cell)?].cut(stamp))
     }
 }

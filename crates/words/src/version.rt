@@ -42,6 +42,16 @@ impl Version {
     }
 }
 
+// A fixed vector of versions fills its unused places with it. It is not derived, since no status is the
+// default one.
+impl Default for Version {
+    ghost is_default = { λ v. v ≡ first_version };
+
+    fn default() -> Version {
+        Version::first()
+    }
+}
+
 // As [1280: 2850 committed, read 2305]: stamp, value, status and read stamp.
 impl fmt::Display for Version {
     ghost output = { λ v. Some (shown v) };

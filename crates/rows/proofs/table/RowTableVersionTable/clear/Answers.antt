@@ -1,6 +1,5 @@
-use Rattle.std.proofs.Common.{refl}
-use Rattle.rows.proofs.Chosen.{row_clear}
+use Rattle.rows.proofs.Eight.{eight_cleared}
 use Rattle.rows.proofs.table.RowTableVersionTable.clear.Goals as goal
 
-pub returns : goal.returns
-returns c = record { answer = refl; after = row_clear _ c.first-first.result c.first-first.ensures }
+pub returns-clause-after : goal.returns-clause-after
+returns-clause-after c = eight_cleared _ _ _ c.new.ensures
