@@ -1,40 +1,50 @@
--- A kept store after one call: which lists it has, and that it is kept.
-use Rattle.std.proofs.Common.{◌≡◌, ℕ, ◌<◌, true, cond, List, [], sym, ap, ◌∙◌, subst, ⊎_elim, arith}
+-- The list of a cell and its chain; a kept store after one call: its lists, and that it is kept.
+use Rattle.std.proofs.Common.{◌≡◌, ℕ, ◌<◌, true, List, Option, map, length, sym, ap, ◌∙◌, subst, arith}
 use mathlib.Core.Path.{fun_ext}
-use Rattle.std.proofs.lemmas.Bool.{cases_lt, cases_eq, lt-ltb, le-ltb}
+use Rattle.std.proofs.lemmas.Bool.{lt-ltb}
+use Rattle.std.proofs.lemmas.Bool.Decides.{nat_tests}
 use Rattle.words.specs.declared.version.Version.{Version}
 use Rattle.tables.specs.Versions.{sinks}
 use Rattle.tables.specs.Table.{put}
-use Rattle.tables.proofs.Lengths.{put_here, put_other}
-use Rattle.chains.specs.Chain.{along}
-use Rattle.chains.specs.Store.{Store, link, list}
-use Rattle.chains.specs.Kept.{Kept, Sinking}
+use Rattle.chains.specs.declared.record.Record.{Record}
+use Rattle.chains.specs.Chain.{version_of, along}
+use Rattle.chains.specs.Store.{Store, link, path_of, list, ChainOf}
+use Rattle.chains.specs.Kept.{Sized, Kept}
+use Rattle.chains.proofs.Keeps.{Pathed}
+
+-- a cell's list is what stands along its chain
+pub own_list : (s : Store) (c : ℕ) → c < s.cells → list s c ≡ along s.records (link s c)
+own_list s c l = simp (lt-ltb c s.cells l)
+
+-- what is said of the chain of a cell, said of the cell's path
+pub on_chain : {s : Store} {c : ℕ} {rs : List Record} {first : Option ℕ} → ChainOf s c rs first → (P : List Record → Option ℕ → Type 0) → P rs first → P s.records (link s c)
+on_chain {s} {c} {rs} {first} chain P h =
+    subst (λ (l : Option ℕ). P s.records l) chain.led (subst (λ (xs : List Record). P xs first) chain.lent h)
 
 -- after a call: kept, with the list of cell c replaced by vs
 pub record Changed (s s' : Store) (c : ℕ) (vs : List Version) : Type 0 where
   pub kept : Kept s'
   pub lists : list s' ≡ put (list s) c vs
 
--- one list replaced by one that sinks leaves all sinking
-pub still_sinking : (s s' : Store) (c : ℕ) (vs : List Version) → Sinking s → sinks vs ≡ true → list s' ≡ put (list s) c vs → Sinking s'
-still_sinking s s' c vs old new e a =
-    ap (λ (f : ℕ → List Version). sinks (f a)) e ∙
-    ⊎_elim
-    (λ (z : a ≡ c). subst (λ (k : ℕ). sinks (put (list s) c vs k) ≡ true) (sym z) (ap sinks (put_here (list s) c vs) ∙ new))
-    (λ ne. ap sinks (put_other (list s) c vs a ne) ∙ old a)
-    (cases_eq a c)
+-- the paths P of the new store give vs along chain c, and elsewhere what was there
+pub changed : (s s' : Store) (c : ℕ) (vs : List Version) (P : ℕ → List ℕ) → Kept s → c < s.cells → s'.cells ≡ s.cells → Sized s' → Pathed s' P → s'.count ≡ length (P s'.cells) → map (version_of s'.records) (P c) ≡ vs → ((a : ℕ) → a < s.cells → (a ≡ c → ⊥) → map (version_of s'.records) (P a) ≡ map (version_of s.records) (path_of s a)) → sinks vs ≡ true → Changed s s' c vs
+changed s s' c vs P kept in' same sized done counted here other sink =
+    let now : (a : ℕ) → along s'.records (link s' a) ≡ map (version_of s'.records) (P a) = λ a. ap (λ (F : ℕ → List ℕ). map (version_of s'.records) (F a)) done.paths in
+    let lists : list s' ≡ put (list s) c vs = fun_ext (λ a. listed s s' c vs in' same (now c ∙ here) a (λ l ne. now a ∙ other a l ne)) in
+    record {
+      kept = record {
+        ends = done.ends;
+        tallied = done.tallied;
+        full = done.full;
+        counted = counted ∙ sym (ap (λ (F : ℕ → List ℕ). length (F s'.cells)) done.paths);
+        sinking = λ a. ap (λ (f : ℕ → List Version). sinks (f a)) lists ∙ sunk s c vs a (kept.sinking a) sink;
+        sized = sized;
+      };
+      lists = lists;
+    }
+  where
+    listed : (s s' : Store) (c : ℕ) (vs : List Version) → c < s.cells → s'.cells ≡ s.cells → along s'.records (link s' c) ≡ vs → (a : ℕ) → (a < s.cells → (a ≡ c → ⊥) → along s'.records (link s' a) ≡ along s.records (link s a)) → list s' a ≡ put (list s) c vs a
+    listed s s' c vs in' same here a other = grind (arith, nat_tests)
 
--- the lists by the paths and the versions along them
-pub lists_by : (s s' : Store) (c : ℕ) (vs : List Version) → c < s.cells → s'.cells ≡ s.cells → along s'.records (link s' c) ≡ vs → ((a : ℕ) → a < s.cells → (a ≡ c → ⊥) → along s'.records (link s' a) ≡ along s.records (link s a)) → list s' ≡ put (list s) c vs
-lists_by s s' c vs in' same here other =
-    fun_ext (λ a.
-    ⊎_elim
-    (λ (z : a ≡ c). subst (λ (k : ℕ). list s' k ≡ put (list s) c vs k) (sym z)
-    (ap (λ b. cond b (along s'.records (link s' c)) []) (lt-ltb c s'.cells (omega arith)) ∙ here ∙ sym (put_here (list s) c vs)))
-    (λ ne. ⊎_elim
-    (λ (l : a < s.cells).
-    ap (λ b. cond b (along s'.records (link s' a)) []) (lt-ltb a s'.cells (omega arith)) ∙ other a l ne ∙ sym (put_other (list s) c vs a ne ∙ ap (λ b. cond b (along s.records (link s a)) []) (lt-ltb a s.cells l)))
-    (λ l.
-    ap (λ b. cond b (along s'.records (link s' a)) []) (le-ltb a s'.cells (omega arith)) ∙ sym (put_other (list s) c vs a ne ∙ ap (λ b. cond b (along s.records (link s a)) []) (le-ltb a s.cells l)))
-    (cases_lt a s.cells))
-    (cases_eq a c))
+    sunk : (s : Store) (c : ℕ) (vs : List Version) (a : ℕ) → sinks (list s a) ≡ true → sinks vs ≡ true → sinks (put (list s) c vs a) ≡ true
+    sunk s c vs a old new = grind (arith, nat_tests)

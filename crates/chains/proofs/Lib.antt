@@ -11,4 +11,3 @@ pub mod Inserts
 pub mod Alters
 pub mod Cutting
 pub mod Clears
-pub mod Shares

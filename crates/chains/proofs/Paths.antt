@@ -1,12 +1,13 @@
 -- Paths along links: a path is what the links say, and what a write to one record makes of it.
-use Rattle.std.proofs.Common.{◌≡◌, ℕ, zero, suc, ◌<◌, ◌≤◌, true, ltb, List, [], ◌∷◌, ◌++◌, map, length, set, Some, None, Option, sym, refl, ap, ◌∙◌, subst, ap₂, ⊎_elim, arith}
+use Rattle.std.proofs.Common.{◌≡◌, ℕ, zero, suc, ◌<◌, ◌≤◌, true, ltb, List, [], ◌∷◌, ◌++◌, map, length, set, Some, None, Option, sym, refl, ap, ◌∙◌, subst, ap₂, arith}
 use Rattle.std.proofs.lemmas.List.{get_or-set_same, get_or-set_other}
-use Rattle.std.proofs.lemmas.Bool.{and_parts, and_from, ltb-true, lt-ltb, cases_eq, false≢true}
+use Rattle.std.proofs.lemmas.Bool.{and_parts, and_from, ltb-true, lt-ltb, false≢true}
 use Rattle.std.proofs.lemmas.Bool.Decides.{nat_tests}
 use Rattle.words.specs.declared.version.Version.{Version}
 use Rattle.chains.specs.declared.record.Record.{Record}
 use Rattle.chains.specs.Chain.{blank, next_of, version_of, chain, ended, path, good, last_of}
 use Rattle.chains.specs.Kept.{count}
+use Rattle.chains.proofs.Sums.{count_first}
 
 -- the links from l on go through the positions p, all below u, and come to the link m
 abbrev pub Led : ℕ → List Record → Option ℕ → List ℕ → Option ℕ → Type 0
@@ -25,12 +26,13 @@ linked u (suc n) rs (Some i) h =
     let parts = and_parts (ltb i u) (ended u n rs (next_of rs i)) h in
     (refl, ltb-true i u parts.0, linked u n rs (next_of rs i) parts.1)
 
+-- the end of a path
+no_chain : (u n : ℕ) (rs : List Record) → (ended u n rs None ≡ true) × (chain n rs None ≡ [])
+no_chain u zero rs = (refl, refl)
+no_chain u (suc n) rs = (refl, refl)
+
 pub linked_ends : (u n : ℕ) (rs : List Record) (l : Option ℕ) (p : List ℕ) → Linked u rs l p → length p ≤ n → (ended u n rs l ≡ true) × (chain n rs l ≡ p)
-linked_ends u n rs l [] h le = subst (λ (z : Option ℕ). (ended u n rs z ≡ true) × (chain n rs z ≡ [])) (sym h) (none n)
-  where
-    none : (m : ℕ) → (ended u m rs None ≡ true) × (chain m rs None ≡ [])
-    none zero = (refl, refl)
-    none (suc m) = (refl, refl)
+linked_ends u n rs l [] h le = subst (λ (z : Option ℕ). (ended u n rs z ≡ true) × (chain n rs z ≡ [])) (sym h) (no_chain u n rs)
 linked_ends u zero rs l (j ∷ p) h le = absurd (omega arith)
 linked_ends u (suc n) rs l (j ∷ p) h le =
     let rest = linked_ends u n rs (next_of rs j) p h.2 (omega arith) in
@@ -41,6 +43,9 @@ chain_short : (n : ℕ) (rs : List Record) (l : Option ℕ) → length (chain n 
 chain_short zero rs l = omega arith
 chain_short (suc n) rs None = omega arith
 chain_short (suc n) rs (Some i) = omega (arith, chain_short n rs (next_of rs i))
+
+pub path_short : (rs : List Record) (l : Option ℕ) → length (path rs l) ≤ length rs
+path_short rs l = chain_short (length rs) rs l
 
 -- one step along a path
 pub record Stepped (rs : List Record) (i : ℕ) : Type 0 where
@@ -63,6 +68,20 @@ stepped rs i h = go (length rs) refl
           onward = rest.0;
         }
 
+-- a step, where the link is known to lead to i
+pub at_some : (rs : List Record) (l : Option ℕ) (i : ℕ) → good rs l ≡ true → l ≡ Some i → Stepped rs i
+at_some rs l i g e = stepped rs i (subst (λ (z : Option ℕ). good rs z ≡ true) e g)
+
+-- the path at the link, opened
+pub opened : (rs : List Record) (l : Option ℕ) (i : ℕ) → good rs l ≡ true → l ≡ Some i → path rs l ≡ i ∷ path rs (next_of rs i)
+opened rs l i g e = ap (path rs) e ∙ (at_some rs l i g e).opens
+
+pub at_none : (rs : List Record) (l : Option ℕ) → l ≡ None → path rs l ≡ []
+at_none rs l e = ap (path rs) e ∙ (no_chain (length rs) (length rs) rs).1
+
+pub none_good : (rs : List Record) → good rs None ≡ true
+none_good rs = (no_chain (length rs) (length rs) rs).0
+
 pub led_append : (u : ℕ) (rs : List Record) (l m n : Option ℕ) (p q : List ℕ) → Led u rs l p m → Led u rs m q n → Led u rs l (p ++ q) n
 led_append u rs l m n [] q h k = subst (λ (z : Option ℕ). Led u rs z q n) (sym h) k
 led_append u rs l m n (j ∷ p) q h k = (h.0, h.1, led_append u rs (next_of rs j) m n p q h.2 k)
@@ -78,31 +97,20 @@ pub last_counted : (i : ℕ) (p : List ℕ) (k : ℕ) → last_of (Some i) p ≡
 last_counted i [] k e = let z : i ≡ k = cc in grind (arith, nat_tests)
 last_counted i (j ∷ p) k e = omega (arith, last_counted j p k e)
 
--- a write to a record that is not on the path
-pub led_frame : (u : ℕ) (rs : List Record) (k : ℕ) (r : Record) (l m : Option ℕ) (p : List ℕ) → count k p ≡ 0 → Led u rs l p m → Led u (set rs k r) l p m
-led_frame u rs k r l m [] out h = h
-led_frame u rs k r l m (j ∷ p) out h =
-    let ne : j ≡ k → ⊥ = grind (arith, nat_tests) in
-    let rest : count k p ≡ 0 = omega arith in
-    (h.0, h.1, subst (λ (z : Option ℕ). Led u (set rs k r) z p m) (sym (ap (λ (x : Record). x.next) (get_or-set_other rs k j r blank ne))) (led_frame u rs k r (next_of rs j) m p rest h.2))
+-- the links at its records make a path, and their versions those along it
+pub led_by : (u : ℕ) (rs rs' : List Record) (l m : Option ℕ) (p : List ℕ) → ((i : ℕ) → 1 ≤ count i p → next_of rs' i ≡ next_of rs i) → Led u rs l p m → Led u rs' l p m
+led_by u rs rs' l m [] same h = h
+led_by u rs rs' l m (j ∷ p) same h =
+    (h.0, h.1, subst (λ (z : Option ℕ). Led u rs' z p m) (sym (same j (omega (arith, count_first j p)))) (led_by u rs rs' (next_of rs j) m p (λ i on. same i (omega arith)) h.2))
 
-pub versions_frame : (rs : List Record) (k : ℕ) (r : Record) (p : List ℕ) → count k p ≡ 0 → map (version_of (set rs k r)) p ≡ map (version_of rs) p
-versions_frame rs k r [] out = refl
-versions_frame rs k r (j ∷ p) out =
-    let ne : j ≡ k → ⊥ = grind (arith, nat_tests) in
-    let rest : count k p ≡ 0 = omega arith in
-    ap₂ (λ (v : Version) (vs : List Version). v ∷ vs) (ap (λ (x : Record). x.version) (get_or-set_other rs k j r blank ne)) (versions_frame rs k r p rest)
+pub versions_by : (rs rs' : List Record) (p : List ℕ) → ((i : ℕ) → 1 ≤ count i p → version_of rs' i ≡ version_of rs i) → map (version_of rs') p ≡ map (version_of rs) p
+versions_by rs rs' [] same = refl
+versions_by rs rs' (j ∷ p) same =
+    ap₂ (λ (v : Version) (vs : List Version). v ∷ vs) (same j (omega (arith, count_first j p))) (versions_by rs rs' p (λ i on. same i (omega arith)))
 
--- a write that keeps the version of a record
-pub versions_kept : (rs : List Record) (k : ℕ) (r : Record) (p : List ℕ) → k < length rs → r.version ≡ version_of rs k → map (version_of (set rs k r)) p ≡ map (version_of rs) p
-versions_kept rs k r [] in' e = refl
-versions_kept rs k r (j ∷ p) in' e =
-    ap₂ (λ (v : Version) (vs : List Version). v ∷ vs)
-    (⊎_elim
-    (λ (z : j ≡ k). subst (λ (i : ℕ). version_of (set rs k r) i ≡ version_of rs i) (sym z) (ap (λ (x : Record). x.version) (get_or-set_same rs k r blank in') ∙ e))
-    (λ ne. ap (λ (x : Record). x.version) (get_or-set_other rs k j r blank ne))
-    (cases_eq j k))
-    (versions_kept rs k r p in' e)
+-- a record not on the path is none of its
+pub not_on : (p : List ℕ) (k i : ℕ) → count k p ≡ 0 → 1 ≤ count i p → i ≡ k → ⊥
+not_on p k i off on e = omega (arith, ap (λ (j : ℕ). count j p) e)
 
 -- the last record of a path led elsewhere
 pub relinked : (u : ℕ) (rs : List Record) (l m : Option ℕ) (j : ℕ) (p : List ℕ) (k : ℕ) (r : Record) → last_of (Some j) p ≡ Some k → k < length rs → count k (j ∷ p) ≡ 1 → Led u rs l (j ∷ p) m → Led u (set rs k r) l (j ∷ p) r.next

@@ -39,6 +39,13 @@ good rs l = ended (length rs) (length rs) rs l
 abbrev pub along : List Record → Option ℕ → List Version
 along rs l = map (version_of rs) (path rs l)
 
+-- what a walk gives at the record at i, and along the path of a link
+abbrev pub stop : List Record → ℕ → ℕ × Version
+stop rs i = (i, version_of rs i)
+
+abbrev pub met : List Record → Option ℕ → List (ℕ × Version)
+met rs l = map (stop rs) (path rs l)
+
 -- the last position of a path, or the link l before it
 abbrev pub last_of : Option ℕ → List ℕ → Option ℕ
 last_of l [] = l

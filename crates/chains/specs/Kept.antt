@@ -31,23 +31,29 @@ Full s = sum (suc s.cells) (λ q. length (path_of s q)) ≡ s.used
 abbrev pub Counted : Store → Type 0
 Counted s = s.count ≡ length (path_of s s.cells)
 
+-- no list rises
 abbrev pub Sinking : Store → Type 0
 Sinking s = (c : ℕ) → sinks (list s c) ≡ true
 
+-- there are at most 1024 cells, two records fewer than are used, and all that is used is lent
+pub record Sized (s : Store) : Type 0 where
+  pub few : s.cells ≤ 1024
+  pub roomy : s.cells ≤ s.used - 2
+  pub headed : s.cells ≤ length s.heads
+  pub lent : s.used ≤ length s.records
+
+-- the lent memory in order
 pub record Kept (s : Store) : Type 0 where
   pub ends : Ends s
   pub tallied : Tallied s
   pub full : Full s
   pub counted : Counted s
   pub sinking : Sinking s
-  pub few : s.cells ≤ 1024
-  pub roomy : s.cells ≤ s.used - 2
-  pub headed : s.cells ≤ length s.heads
-  pub lent : s.used ≤ length s.records
+  pub sized : Sized s
 
 -- what stands in the trait's proof
-pub chained_sound : (s : Store) → s.cells ≤ 1024 → Sinking s → Sound (chained s)
-chained_sound s few sinking = record { few = few; sinking = sinking }
+pub chained_sound : (s : Store) → Kept s → Sound (chained s)
+chained_sound s k = record { few = k.sized.few; sinking = k.sinking }
 
 -- the free places of every cell are the records used that hold no version
 pub record SharedPlaces (used : ℕ) (t : Table) : Type 0 where

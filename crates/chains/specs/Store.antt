@@ -1,5 +1,5 @@
 -- What a chained table means, by the memory lent to it.
-use Rattle.std.specs.Prelude.{◌≡◌, ℕ, ◌+◌, ◌-◌, min, cond, List, [], drop, Some, None, Option, ◌==◌, nat_lt, slice_index_or, slice_set}
+use Rattle.std.specs.Prelude.{◌≡◌, ℕ, ◌+◌, ◌-◌, ◌<◌, min, cond, List, [], length, drop, Some, None, Option, ◌==◌, nat_lt, slice_index_or, slice_set}
 use Rattle.words.specs.declared.version.Version.{Version}
 use Rattle.words.specs.Version.{first_version}
 use Rattle.tables.specs.Table.{Table, cleared}
@@ -96,6 +96,11 @@ moved s c newer to x r fl n =
       count = n;
     }
 
+-- the version v written into the first free record, f, and that put into chain c between `newer` and `older`
+abbrev pub taken : Store → ℕ → Option ℕ → Option ℕ → ℕ → Version → Store
+taken s c newer older f v =
+    moved s c newer (Some f) f (record { version = v; next = older }) (next_of s.records f) (s.count - 1)
+
 -- the record at i taken out of chain c, where it stands behind `newer`, and put in front of the free ones
 abbrev pub freed : Store → ℕ → Option ℕ → ℕ → Store
 freed s c newer i =
@@ -108,3 +113,15 @@ pub record Unused (s s' : Store) : Type 0 where
   pub used : s'.used ≡ s.used
   pub heads : drop s.cells s'.heads ≡ drop s.cells s.heads
   pub records : drop s.used s'.records ≡ drop s.used s.records
+
+-- what a move of the record at i into or out of chain c writes is there: the head, the record, and the one before it
+pub record Touches (s : Store) (c : ℕ) (newer : Option ℕ) (i : ℕ) : Type 0 where
+  pub headed : c < length s.heads
+  pub lent : i < length s.records
+  pub led : (k : ℕ) → newer ≡ Some k → k < length s.records
+
+-- the chain of the cell c, as a walk sees it: the records, and the first link
+pub record ChainOf (s : Store) (c : ℕ) (rs : List Record) (first : Option ℕ) : Type 0 where
+  pub within : c < s.cells
+  pub lent : rs ≡ s.records
+  pub led : first ≡ link s c

@@ -1,17 +1,25 @@
 -- What a walk along a chain finds.
-use Rattle.std.specs.Prelude.{◌≡◌, ℕ, Bool, true, false, ◌&&◌, List, [], ◌∷◌, ◌++◌, map, None, Option, nat_le, nat_lt}
+use Rattle.std.specs.Prelude.{◌≡◌, ℕ, ◌<◌, length, Bool, true, false, ◌&&◌, List, [], ◌∷◌, ◌++◌, map, None, Option, nat_le, nat_lt}
 use Rattle.words.specs.declared.version.Version.{Version}
 use Rattle.tables.specs.Versions.{holds}
 use Rattle.chains.specs.declared.record.Record.{Record}
 use Rattle.chains.specs.Chain.{version_of, path, good, along, last_of}
+use Rattle.chains.specs.Store.{Store, path_of, list}
 
--- the record at i has the first version stamped s
-pub record Found (rs : List Record) (first : Option ℕ) (s i : ℕ) : Type 0 where
+-- along the path p, the record at i has the first version stamped s
+pub record Found (rs : List Record) (p : List ℕ) (s i : ℕ) : Type 0 where
   pub front : List ℕ
   pub back : List ℕ
-  pub split : path rs first ≡ front ++ (i ∷ back)
+  pub split : p ≡ front ++ (i ∷ back)
   pub here : (version_of rs i).write ≡ s
   pub before : holds s (map (version_of rs) front) ≡ false
+
+-- the record at i has the first version of the cell c stamped t
+pub record StampedAt (s : Store) (c t i : ℕ) : Type 0 where
+  pub within : c < s.cells
+  pub lent : i < length s.records
+  pub held : holds t (list s c) ≡ true
+  pub found : Found s.records (path_of s c) t i
 
 -- every version is stamped above s
 abbrev pub above : ℕ → List Version → Bool

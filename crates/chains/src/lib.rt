@@ -4,15 +4,12 @@
 // that of the free records; every call only relinks records.
 #![tactic(auto)]
 
-mod ask;
 mod calls;
-mod change;
+mod chain;
 mod clear;
-mod cut;
 mod links;
 mod record;
 mod table;
-mod walk;
 
 pub use record::Record;
 pub use table::ChainTable;
