@@ -1,4 +1,7 @@
 // One line for a call and its answer, one line for a cell's list.
+ghost use Rattle.std.specs.Prelude.{Some};
+ghost use Rattle.plate_demo.specs.Report.{told_shown};
+
 use std::{fmt, io};
 use tables::{Answer, VersionTable};
 use words::Refusal;
