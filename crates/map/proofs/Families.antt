@@ -17,15 +17,15 @@ use Rattle.workers.specs.declared.clock.Tick.TheVariants.{Begin as Begins, Pulse
 use Rattle.workers.specs.declared.steps.Step.{Step}
 use Rattle.workers.specs.declared.steps.Step.TheVariants.{Install as Installs, Stamp as Stamps, Check as Checks}
 use Rattle.workers.specs.Shape.{stage_after, step_by, calls_for}
-use Rattle.map.specs.declared.inner.Inner.{Inner}
+use Rattle.map.specs.declared.crew.Crew.{Crew}
 use Rattle.map.specs.Plate.{seated, plate}
 use Rattle.map.specs.Performed.{Performed, tick_call, step_call}
 use Rattle.map.proofs.Places.{seated_at}
 use Rattle.map.proofs.Lift.{over, here, lifted, lifted_both, performed, none_beneath, upon_cells}
 
 -- the worker w of the map i was x and is y
-module _ (t u : Table) (i : Inner) (w : ℕ) (x y : Worker) (within : w < i.count) (places : w < length (vec_items i.workers)) (is : x ≡ get_or (vec_items i.workers) w x) (a : Outcome ℕ)
-    (j : Inner) (changed : (v : Table) → plate v j ≡ over v (set (vec_items i.workers) w y) i.count i.commits) where
+module _ (t u : Table) (i : Crew) (w : ℕ) (x y : Worker) (within : w < i.count) (places : w < length (vec_items i.workers)) (is : x ≡ get_or (vec_items i.workers) w x) (a : Outcome ℕ)
+    (j : Crew) (changed : (v : Table) → plate v j ≡ over v (set (vec_items i.workers) w y) i.count i.commits) where
   abbrev xs : List Worker
   xs = vec_items i.workers
 
@@ -86,13 +86,13 @@ module _ (t u : Table) (i : Inner) (w : ℕ) (x y : Worker) (within : w < i.coun
   commit_refused n d no' h steps = performed t u i j _ a (subst (λ o. (o, plate u j) ≡ counting (o, plate u j)) (sym no') refl ∙ ap counting (both (commit_by t w) (upon_cells t u a (commit_calls w x) steps) h)) (subst (λ z. StepsUpon t a (commit_calls w z) u) (sym seated_here) steps)
 
   pub commit_counted : (n : ℕ) → a ≡ accepted n → (a, (y, u.versions)) ≡ commit_by t w x → StepsUpon t a (commit_calls w x) u
-      → (k : Inner) → plate u k ≡ with_commits (plate u j) (one_more i.commits) → (j.commits ≡ i.commits) → Performed t i (Commit w) a u k
+      → (k : Crew) → plate u k ≡ with_commits (plate u j) (one_more i.commits) → (j.commits ≡ i.commits) → Performed t i (Commit w) a u k
   commit_counted n ok h steps k more same = performed t u i k _ a
       (ap (λ m. (a, m)) more ∙ ap (λ c. (a, with_commits (plate u j) (one_more c))) (sym same) ∙ subst (λ o. (o, with_commits (plate u j) (one_more j.commits)) ≡ counting (o, plate u j)) (sym ok) refl ∙
       ap counting (both (commit_by t w) (upon_cells t u a (commit_calls w x) steps) h)) (subst (λ z. StepsUpon t a (commit_calls w z) u) (sym seated_here) steps)
 
 -- collect, by what its search found
-pub collect_found : (t u : Table) (i : Inner) (c line : ℕ) (v : Version) (r : Result ℕ Refusal) → line ≡ keep_line (plate t i) → accepted v ≡ search (newest_below line) t c → told r ≡ cut_answer t c v.write
+pub collect_found : (t u : Table) (i : Crew) (c line : ℕ) (v : Version) (r : Result ℕ Refusal) → line ≡ keep_line (plate t i) → accepted v ≡ search (newest_below line) t c → told r ≡ cut_answer t c v.write
     → MatchResult r (λ _. Cut t u c v.write) (λ _. u ≡ t) → Performed t i (Collect c) (told r) u i
 collect_found t u i c line v r e found answer after = by r answer after
   where
@@ -105,11 +105,11 @@ collect_found t u i c line v r e found answer after = by r answer after
         (subst (λ o. Steps t (cut_at c o) u) (sym seen) (u, subst (λ o. Upon o (Cut t u c v.write) (u ≡ t)) ok cut, refl))
     by (Err x) no' same = performed t u i i _ (refuse x) ((λ k. (refuse x, plate (same k) i)) ∙ sym (rw (seen, ← no'))) same
 
-pub collect_none : (t : Table) (i : Inner) (c line : ℕ) (x : Refusal) → line ≡ keep_line (plate t i) → refuse x ≡ search (newest_below line) t c → Performed t i (Collect c) (refuse x) t i
+pub collect_none : (t : Table) (i : Crew) (c line : ℕ) (x : Refusal) → line ≡ keep_line (plate t i) → refuse x ≡ search (newest_below line) t c → Performed t i (Collect c) (refuse x) t i
 collect_none t i c line x e found =
     let seen : search (newest_below (keep_line (plate t i))) t c ≡ refuse x = ap (λ l. search (newest_below l) t c) (sym e) ∙ sym found in
     performed t t i i _ (refuse x) (sym (rw seen)) refl
 
 -- show, where its search found none
-pub show_none : (t : Table) (i : Inner) (c : ℕ) (x : Refusal) → refuse x ≡ search newest t c → Performed t i (Show c) (refuse x) t i
+pub show_none : (t : Table) (i : Crew) (c : ℕ) (x : Refusal) → refuse x ≡ search newest t c → Performed t i (Show c) (refuse x) t i
 show_none t i c x found = performed t t i i _ (refuse x) (sym (rw (← found))) refl

@@ -14,7 +14,7 @@ use Rattle.rules.proofs.Refusals.{refused_unchanged}
 use Rattle.rules.proofs.Same.{same_outcome}
 use Rattle.law.specs.History.{Event}
 use Rattle.law.specs.Run.{Run, more}
-use Rattle.map.specs.declared.inner.Inner.{Inner}
+use Rattle.map.specs.declared.crew.Crew.{Crew}
 use Rattle.map.specs.Plate.{seated, plate}
 use Rattle.map.specs.Performed.{Performed}
 use Rattle.map.proofs.Places.{seated_at, seated_set, seated_new}
@@ -33,7 +33,7 @@ none_beneath t (accepted n) = refl
 none_beneath t (refused n d) = refl
 
 -- the answer and the steps are all that is to be shown
-pub performed : (t u : Table) (i j : Inner) (call : Call) (answer : Outcome ℕ) → (answer, plate u j) ≡ turn_outcome t.free (plate t i) call → Beneath t (plate t i) call answer u → Performed t i call answer u j
+pub performed : (t u : Table) (i j : Crew) (call : Call) (answer : Outcome ℕ) → (answer, plate u j) ≡ turn_outcome t.free (plate t i) call → Beneath t (plate t i) call answer u → Performed t i call answer u j
 performed t u i j call answer turn beneath =
     let after : (answer, plate u j) ≡ outcome t.free (plate t i) call = turn ∙ same_outcome t.free (plate t i) call in
     record {
@@ -67,9 +67,9 @@ module _ (t u : Table) (xs : List Worker) (n m w : ℕ) (x y : Worker) (within :
       ap (in_both (over t xs n m) w) (h ∙ ap f (sym here)) ∙ sym (rw (lt-ltb w n within))
 
 -- a map just made is the rules' new map
-pub made_map : (t u : Table) (i : Inner) (n : ℕ) → Cleared t u → vec_items i.workers ≡ replicate 16 new_worker → i.count ≡ workers_of n → i.commits ≡ 0 → plate u i ≡ new_map n t.cells
+pub made_map : (t u : Table) (i : Crew) (n : ℕ) → Cleared t u → vec_items i.workers ≡ replicate 16 new_worker → i.count ≡ workers_of n → i.commits ≡ 0 → plate u i ≡ new_map n t.cells
 made_map t u i n clear new count none = λ k. record { workers = count k; worker = (ap seated new ∙ seated_new 16) k; cells = clear.cells k; lists = clear.versions k; commits = none k }
 
 -- a run and one call more
-pub one_more_event : (workers cells : ℕ) (es : List Event) (t u : Table) (i j : Inner) (call : Call) (answer : Outcome ℕ) → Run workers cells es t (plate t i) → Performed t i call answer u j → Run workers cells (record { call = call; answer = answer } ∷ es) u (plate u j)
+pub one_more_event : (workers cells : ℕ) (es : List Event) (t u : Table) (i j : Crew) (call : Call) (answer : Outcome ℕ) → Run workers cells es t (plate t i) → Performed t i call answer u j → Run workers cells (record { call = call; answer = answer } ∷ es) u (plate u j)
 one_more_event workers cells es t u i j call answer run did = more call answer run (sym did.after) did.beneath

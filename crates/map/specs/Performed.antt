@@ -10,13 +10,13 @@ use Rattle.workers.specs.declared.clock.Tick.{Tick}
 use Rattle.workers.specs.declared.clock.Tick.TheVariants.{Begin as Begins, Pulse as Pulses}
 use Rattle.workers.specs.declared.steps.Step.{Step}
 use Rattle.workers.specs.declared.steps.Step.TheVariants.{Install as Installs, Stamp as Stamps, Check as Checks}
-use Rattle.map.specs.declared.inner.Inner.{Inner}
+use Rattle.map.specs.declared.crew.Crew.{Crew}
 use Rattle.map.specs.declared.plate.PlateMap.{PlateMap}
 use Rattle.map.specs.Plate.{plate}
 
 -- the answer and the whole model afterwards are the rules'; the table made the steps of its own contract;
 -- a refused call changed nothing
-pub record Performed (t : Table) (i : Inner) (call : Call) (answer : Outcome ℕ) (u : Table) (j : Inner) : Type 0 where
+pub record Performed (t : Table) (i : Crew) (call : Call) (answer : Outcome ℕ) (u : Table) (j : Crew) : Type 0 where
   pub after : (answer, plate u j) ≡ outcome t.free (plate t i) call
   pub beneath : Beneath t (plate t i) call answer u
   pub unchanged : (n d : ℕ) → answer ≡ refused n d → (plate u j ≡ plate t i) × (u ≡ t)
@@ -34,4 +34,4 @@ step_call Checks w = Check w
 -- what a call of a map makes of the map, by what its table means
 abbrev pub Did : {T : Type 0} → (T → Table) → PlateMap T → Call → Outcome ℕ → PlateMap T → Type 0
 Did meaning m call answer n =
-    Performed (meaning m.table.now) m.crew.inner call answer (meaning n.table.now) n.crew.inner
+    Performed (meaning m.table.now) m.crew call answer (meaning n.table.now) n.crew

@@ -3,7 +3,7 @@ use Rattle.std.specs.Prelude.{ℕ, List, vec_items, slice_index_or}
 use Rattle.tables.specs.Table.{Table}
 use Rattle.rules.specs.Model.{Worker, Model, new_worker}
 use Rattle.rules.specs.Stamps.{timestamp}
-use Rattle.map.specs.declared.inner.Inner.{Inner}
+use Rattle.map.specs.declared.crew.Crew.{Crew}
 use Rattle.map.specs.declared.plate.PlateMap.{PlateMap}
 
 -- the worker in each place; past the last place a worker before its first call
@@ -13,7 +13,7 @@ seated xs w = slice_index_or xs w new_worker
 abbrev pub last_of : List Worker → ℕ → ℕ
 last_of xs w = timestamp (seated xs w).last w
 
-abbrev pub plate : Table → Inner → Model
+abbrev pub plate : Table → Crew → Model
 plate t i =
     record {
       workers = i.count;
@@ -25,4 +25,4 @@ plate t i =
 
 -- the model of a map whose table means what meaning says
 abbrev pub model_of : {T : Type 0} → (T → Table) → PlateMap T → Model
-model_of meaning m = plate (meaning m.table.now) m.crew.inner
+model_of meaning m = plate (meaning m.table.now) m.crew

@@ -113,7 +113,7 @@ impl<'t, T: VersionTable> PlateMap<'t, T> {
     pub(crate) fn commits(&mut self) -> Result<u64, Refusal>
         ensures { Did T.meaning self.old (Commits) (told result) self.new }
     {
-        Ok(self.crew.inner.commits)
+        Ok(self.crew.commits)
     }
 
     // Cuts a cell's old versions off and answers how many.

@@ -15,9 +15,9 @@ use workers::{Edit, Glance, Seat, Step, Tick};
 impl Crew {
     // The seat of a worker of the map.
     fn seat(&self, worker: u64) -> Result<Seat, Refusal>
-        ensures { MatchResult result (λ s. (worker < self.now.inner.count) × (s.number ≡ worker)) (λ e. (self.now.inner.count ≤ worker) × (e ≡ NoWorker)) }
+        ensures { MatchResult result (λ s. (worker < self.now.count) × (s.number ≡ worker)) (λ e. (self.now.count ≤ worker) × (e ≡ NoWorker)) }
     {
-        if worker >= self.inner.count {
+        if worker >= self.count {
             return Err(Refusal::NoWorker);
         }
         Seat::try_from(worker)
@@ -25,10 +25,10 @@ impl Crew {
 
     // begin and pulse.
     pub(crate) fn tick(&mut self, worker: u64, call: Tick, units: u64) -> Result<u64, Refusal>
-        ensures { (t : Table) → Performed t self.old.inner (tick_call call worker units) (told result) t self.new.inner }
+        ensures { (t : Table) → Performed t self.old (tick_call call worker units) (told result) t self.new }
     {
         let seat = self.seat(worker)?;
-        self.inner.worker(worker as usize).tick(seat, call, units)
+        self.worker(worker as usize).tick(seat, call, units)
     }
 
     // install, stamp and check.
@@ -38,17 +38,17 @@ impl Crew {
         worker: u64,
         call: Step,
     ) -> Result<u64, Refusal>
-        ensures { Performed (T.meaning table.old) self.old.inner (step_call call worker) (told result) (T.meaning table.new) self.new.inner }
+        ensures { Performed (T.meaning table.old) self.old (step_call call worker) (told result) (T.meaning table.new) self.new }
     {
         let seat = self.seat(worker)?;
-        self.inner.worker(worker as usize).step(table, seat, call)
+        self.worker(worker as usize).step(table, seat, call)
     }
 
     pub(crate) fn seal(&mut self, worker: u64) -> Result<u64, Refusal>
-        ensures { (t : Table) → Performed t self.old.inner (Seal worker) (told result) t self.new.inner }
+        ensures { (t : Table) → Performed t self.old (Seal worker) (told result) t self.new }
     {
         self.seat(worker)?;
-        self.inner.worker(worker as usize).edit(Edit::Seal)
+        self.worker(worker as usize).edit(Edit::Seal)
     }
 
     // A write to one of so many cells.
@@ -58,13 +58,13 @@ impl Crew {
         worker: u64,
         entry: WriteEntry,
     ) -> Result<u64, Refusal>
-        ensures { (t : Table) → t.cells ≡ cells → Performed t self.old.inner (Write worker entry.cell entry.value) (told result) t self.new.inner }
+        ensures { (t : Table) → t.cells ≡ cells → Performed t self.old (Write worker entry.cell entry.value) (told result) t self.new }
     {
         self.seat(worker)?;
         if entry.cell >= cells {
             return Err(Refusal::NoCell);
         }
-        self.inner.worker(worker as usize).edit(Edit::Write(entry))
+        self.worker(worker as usize).edit(Edit::Write(entry))
     }
 
     pub(crate) fn read<T: VersionTable>(
@@ -73,40 +73,38 @@ impl Crew {
         worker: u64,
         cell: u64,
     ) -> Result<u64, Refusal>
-        ensures { Performed (T.meaning table.now) self.old.inner (Read worker cell) (told result) (T.meaning table.now) self.new.inner }
+        ensures { Performed (T.meaning table.now) self.old (Read worker cell) (told result) (T.meaning table.now) self.new }
     {
         let seat = self.seat(worker)?;
         if cell >= table.cells() as u64 {
             return Err(Refusal::NoCell);
         }
-        self.inner.worker(worker as usize).read(table, seat, cell)
+        self.worker(worker as usize).read(table, seat, cell)
     }
 
     pub(crate) fn close(&mut self, worker: u64) -> Result<u64, Refusal>
-        ensures { (t : Table) → Performed t self.old.inner (Close worker) (told result) t self.new.inner }
+        ensures { (t : Table) → Performed t self.old (Close worker) (told result) t self.new }
     {
         self.seat(worker)?;
-        self.inner.worker(worker as usize).glance(Glance::Close)
+        self.worker(worker as usize).glance(Glance::Close)
     }
 
     // Brings a worker's clock up to another's.
     pub(crate) fn sync(&mut self, worker: u64, other: u64) -> Result<u64, Refusal>
-        ensures { (t : Table) → Performed t self.old.inner (Sync worker other) (told result) t self.new.inner }
+        ensures { (t : Table) → Performed t self.old (Sync worker other) (told result) t self.new }
     {
         self.seat(worker)?;
         self.seat(other)?;
-        let time = self.inner.workers[other as usize].time();
-        Ok(self.inner.worker(worker as usize).sync(time))
+        let time = self.workers[other as usize].time();
+        Ok(self.worker(worker as usize).sync(time))
     }
 
     pub(crate) fn look(&mut self, worker: u64) -> Result<u64, Refusal>
-        ensures { (t : Table) → Performed t self.old.inner (Look worker) (told result) t self.new.inner }
+        ensures { (t : Table) → Performed t self.old (Look worker) (told result) t self.new }
     {
         self.seat(worker)?;
         let floor = self.floor();
-        self.inner
-            .worker(worker as usize)
-            .glance(Glance::Look(floor))
+        self.worker(worker as usize).glance(Glance::Look(floor))
     }
 
     pub(crate) fn abort<T: VersionTable>(
@@ -114,12 +112,10 @@ impl Crew {
         table: &mut T,
         worker: u64,
     ) -> Result<u64, Refusal>
-        ensures { Performed (T.meaning table.old) self.old.inner (Abort worker) (told result) (T.meaning table.new) self.new.inner }
+        ensures { Performed (T.meaning table.old) self.old (Abort worker) (told result) (T.meaning table.new) self.new }
     {
         let seat = self.seat(worker)?;
-        self.inner
-            .worker(worker as usize)
-            .end(table, seat, Ending::Abort)
+        self.worker(worker as usize).end(table, seat, Ending::Abort)
     }
 
     pub(crate) fn commit<T: VersionTable>(
@@ -127,14 +123,13 @@ impl Crew {
         table: &mut T,
         worker: u64,
     ) -> Result<u64, Refusal>
-        ensures { Performed (T.meaning table.old) self.old.inner (Commit worker) (told result) (T.meaning table.new) self.new.inner }
+        ensures { Performed (T.meaning table.old) self.old (Commit worker) (told result) (T.meaning table.new) self.new }
     {
         let seat = self.seat(worker)?;
         let stamp = self
-            .inner
             .worker(worker as usize)
             .end(table, seat, Ending::Commit)?;
-        self.inner.commits = (self.inner.commits + 1).min(4294967295);
+        self.commits = (self.commits + 1).min(4294967295);
         Ok(stamp)
     }
 }

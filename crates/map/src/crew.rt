@@ -1,11 +1,14 @@
-// The worker places with what is always true of them.
+// The inner struct of a map: its sixteen worker places, and its count of commits.
 ghost use Rattle.std.specs.Prelude.{◌≡◌, ◌^◌, ◌<◌, ◌≤◌, vec_len};
 
-use crate::inner::Inner;
+use workers::Worker;
 
-// Sixteen places, 1 to 16 of them in use.
+// 1 to 16 of the places are in use. There are sixteen however many are used, as the rules say, so the
+// count stands beside them.
 #[derive(Drop)]
 pub struct Crew {
-    pub(crate) inner: Inner,
-    ghost full: { (vec_len inner.workers ≡ 16) × (1 ≤ inner.count) × (inner.count ≤ 16) × (inner.commits < 2 ^ 32) },
+    pub(crate) workers: Vec<Worker>,
+    pub(crate) count: u64,
+    pub(crate) commits: u64,
+    ghost full: { (vec_len workers ≡ 16) × (1 ≤ count) × (count ≤ 16) × (commits < 2 ^ 32) },
 }

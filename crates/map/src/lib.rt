@@ -9,7 +9,6 @@ mod calls;
 mod cells;
 mod crew;
 mod floor;
-mod inner;
 mod lend;
 mod lines;
 mod make;

@@ -9,15 +9,15 @@ use crate::floor::{floor, keep};
 
 impl Crew {
     pub(crate) fn floor(&self) -> u64
-        ensures { (t : Table) → result ≡ floor (plate t self.now.inner) }
+        ensures { (t : Table) → result ≡ floor (plate t self.now) }
     {
-        floor(&self.inner.workers[0..self.inner.count as usize])
+        floor(&self.workers[0..self.count as usize])
     }
 
     pub(crate) fn keep_line(&self) -> u64
-        ensures { (t : Table) → result ≡ keep_line (plate t self.now.inner) }
+        ensures { (t : Table) → result ≡ keep_line (plate t self.now) }
     {
         let floor = self.floor();
-        keep(&self.inner.workers[0..self.inner.count as usize], floor)
+        keep(&self.workers[0..self.count as usize], floor)
     }
 }

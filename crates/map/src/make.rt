@@ -5,7 +5,6 @@ ghost use Rattle.tables.specs.Table.{Cleared};
 ghost use Rattle.map.specs.Plate.{model_of};
 
 use crate::crew::Crew;
-use crate::inner::Inner;
 use crate::plate::PlateMap;
 use std::alloc::{AllocError, Global};
 use tables::VersionTable;
@@ -14,7 +13,7 @@ use workers::Worker;
 impl Crew {
     // Sixteen workers before their first call; so many as asked for, counted as 1 to 16, are in use.
     pub(crate) fn new(heap: Global, asked: u64) -> Result<Crew, AllocError>
-        ensures { IfOk result (λ c. (c.inner.workers.items ≡ replicate 16 new_worker) × (c.inner.count ≡ workers_of asked) × (c.inner.commits ≡ 0)) }
+        ensures { IfOk result (λ c. (c.workers.items ≡ replicate 16 new_worker) × (c.count ≡ workers_of asked) × (c.commits ≡ 0)) }
     {
         let mut workers = Vec::new(heap);
         for _n in 0..16usize {
@@ -22,11 +21,9 @@ impl Crew {
             workers.push(worker)?;
         }
         Ok(Crew {
-            inner: Inner {
-                workers,
-                count: asked.min(16).max(1),
-                commits: 0,
-            },
+            workers,
+            count: asked.min(16).max(1),
+            commits: 0,
         })
     }
 }

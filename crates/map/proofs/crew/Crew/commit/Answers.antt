@@ -9,16 +9,16 @@ use Rattle.map.proofs.crew.Crew.commit.Goals as goal
 
 pub returns : goal.returns
 returns g c =
-    let i = c.args.self.now.inner in
+    let i = c.args.self.now in
     let e = c.in_ok-seat.ensures in
     let f = c.in_ok-stamp.ensures in
     commit_counted (g.T.VersionTable.meaning c.args.table.now) (g.T.VersionTable.meaning c.end.new.table) i c.args.worker c.worker.result.now c.end.new.self e.0 (search rules) c.worker.ensures.value (accepted c.in_ok-stamp.stamp)
-    (record { workers = with_item i.workers c.args.worker c.end.new.self; count = i.count; commits = i.commits }) (λ v. refl)
-    c.in_ok-stamp.stamp refl (rw e.1 at f.after) (rw e.1 at f.beneath) _ (ap (with_commits (plate (g.T.VersionTable.meaning c.end.new.table) (record { workers = with_item i.workers c.args.worker c.end.new.self; count = i.count; commits = i.commits }))) c.min-self.ensures) refl
+    (record { workers = with_item i.workers c.args.worker c.end.new.self; count = i.count; commits = i.commits; full = i.full }) (λ v. refl)
+    c.in_ok-stamp.stamp refl (rw e.1 at f.after) (rw e.1 at f.beneath) _ (ap (with_commits (plate (g.T.VersionTable.meaning c.end.new.table) (record { workers = with_item i.workers c.args.worker c.end.new.self; count = i.count; commits = i.commits; full = i.full }))) c.min-self.ensures) refl
 
 pub returns-in_err-stamp : goal.returns-in_err-stamp
 returns-in_err-stamp g c =
-    let i = c.args.self.now.inner in
+    let i = c.args.self.now in
     let e = c.in_ok-seat.ensures in
     let f = c.in_err-stamp.ensures in
     rw (told_exit c.from_residual-in_err-stamp.result _ c.from_residual-in_err-stamp.ensures.1)

@@ -6,7 +6,7 @@ use Rattle.map.proofs.crew.Crew.keep_line.Goals as goal
 
 pub returns : goal.returns
 returns c t =
-    let i = c.args.self.now.inner in
+    let i = c.args.self.now in
     let f = c.floor-floor.result in
     let z : i.count - 0 ≡ i.count = omega arith in
     (simp (z, c.deref.ensures.value) at c.keep.ensures) ∙ ap (min f) (least_used (λ x w. look_floor x.stage f) i.count (vec_items i.workers) (search rules) (search rules)) ∙

@@ -5,7 +5,7 @@ use Rattle.map.proofs.crew.Crew.sync.Goals as goal
 
 pub returns : goal.returns
 returns c t =
-    let i = c.args.self.now.inner in
+    let i = c.args.self.now in
     let e = c.in_ok-seat.ensures in
     let o = c.in_ok-seat-2.ensures in
     sync_performed t t i c.args.worker c.worker.result.now c.sync.new.self e.0 (search rules) c.worker.ensures.value (accepted c.sync.result) _ (λ v. refl)
