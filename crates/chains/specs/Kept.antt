@@ -35,7 +35,7 @@ Counted s = s.count ≡ length (path_of s s.cells)
 abbrev pub Sinking : Store → Type 0
 Sinking s = (c : ℕ) → sinks (list s c) ≡ true
 
--- there are at most 1024 cells, two records fewer than are used, and all that is used is lent
+-- at most 1024 cells, and two fewer at least than records used, or none; what is used is lent
 pub record Sized (s : Store) : Type 0 where
   pub few : s.cells ≤ 1024
   pub roomy : s.cells ≤ s.used - 2

@@ -96,7 +96,7 @@ moved s c newer to x r fl n =
       count = n;
     }
 
--- the version v written into the first free record, f, and that put into chain c between `newer` and `older`
+-- the version v written into the first free record, f, put into chain c between `newer` and `older`
 abbrev pub taken : Store → ℕ → Option ℕ → Option ℕ → ℕ → Version → Store
 taken s c newer older f v =
     moved s c newer (Some f) f (record { version = v; next = older }) (next_of s.records f) (s.count - 1)
@@ -114,7 +114,7 @@ pub record Unused (s s' : Store) : Type 0 where
   pub heads : drop s.cells s'.heads ≡ drop s.cells s.heads
   pub records : drop s.used s'.records ≡ drop s.used s.records
 
--- what a move of the record at i into or out of chain c writes is there: the head, the record, and the one before it
+-- what is written by a move of the record at i into or out of chain c, behind `newer`, is there
 pub record Touches (s : Store) (c : ℕ) (newer : Option ℕ) (i : ℕ) : Type 0 where
   pub headed : c < length s.heads
   pub lent : i < length s.records

@@ -24,7 +24,7 @@ pub(crate) struct Place {
     pub(crate) older: Option<usize>,
 }
 
-// Each record's position and version.
+// Gives each record's position and version.
 impl<'a> Iterator for Chain<'a> {
     ghost use Rattle.std.specs.Iterator.{YieldsFirst, item_count};
 

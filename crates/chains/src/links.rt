@@ -41,7 +41,8 @@ impl<'a> Links<'a> {
         }
     }
 
-    // Puts the version into the first free record, `free`, and that into the cell's chain at its place.
+    // Puts the version into the first free record, `free`, and that record into the cell's chain at
+    // its place.
     pub(crate) fn take(&mut self, cell: usize, place: Place, free: usize, version: Version)
         requires touches { Touches (store self.old) cell place.newer free }
         requires counted { 0 < (store self.old).count }

@@ -63,7 +63,7 @@ impl<'a> ChainTable<'a> {
         })
     }
 
-    // The record of the first version of the cell with that stamp; refused as a raise of it would be.
+    // The record of the first version of the cell with that stamp. It is refused as a raise is.
     pub(crate) fn stamped(&self, cell: usize, stamp: u64) -> Result<usize, Refusal>
         ensures { MatchResult result (λ at. StampedAt (store self.now.links) cell stamp at) (λ refusal. refuse refusal ≡ raise_answer (mean self.now.links) cell stamp) }
     {

@@ -1,14 +1,13 @@
 -- A call that changed one worker in its place is the rules' call on the whole map.
-use Rattle.std.proofs.Common.{◌≡◌, ℕ, ◌<◌, ◌≤◌, List, [], ◌∷◌, length, get_or, set, replicate, vec_items, sym, refl, ap, ◌∙◌, subst, le-ltb, lt-ltb}
+use Rattle.std.proofs.Common.{◌≡◌, ℕ, ◌<◌, List, [], ◌∷◌, length, get_or, set, sym, refl, ap, ◌∙◌, subst, lt-ltb}
 use Rattle.words.specs.Outcome.{Outcome, accepted, refused}
-use Rattle.words.specs.declared.refusal.Refusal.TheVariants.{NoWorker}
-use Rattle.tables.specs.Table.{Table, Cleared}
+use Rattle.tables.specs.Table.{Table}
 use Rattle.tables.specs.declared.call.TableCall.{TableCall}
 use Rattle.tables.proofs.Reaches.{step_cells}
 use Rattle.rules.specs.declared.call.Call.{Call}
-use Rattle.rules.specs.Model.{Worker, Model, new_worker, new_map, workers_of}
-use Rattle.rules.specs.Rules.{Done, outcome, with_a_worker}
-use Rattle.rules.specs.Turns.{Came, Lists, deny_by, in_place, in_both, at_worker, at_both, turn_outcome}
+use Rattle.rules.specs.Model.{Worker, Model}
+use Rattle.rules.specs.Rules.{Done, outcome}
+use Rattle.rules.specs.Turns.{Came, Lists, in_place, in_both, at_worker, at_both, turn_outcome}
 use Rattle.rules.specs.Beneath.{Steps, StepsUpon, beneath, Beneath}
 use Rattle.rules.proofs.Refusals.{refused_unchanged}
 use Rattle.rules.proofs.Same.{same_outcome}
@@ -17,7 +16,7 @@ use Rattle.law.specs.Run.{Run, more}
 use Rattle.map.specs.declared.crew.Crew.{Crew}
 use Rattle.map.specs.Plate.{seated, plate}
 use Rattle.map.specs.Performed.{Performed}
-use Rattle.map.proofs.Places.{seated_at, seated_set, seated_new}
+use Rattle.map.proofs.Places.{seated_at, seated_set}
 
 -- a table's steps keep its number of cells
 steps_cells : (calls : List TableCall) (t u : Table) → Steps t calls u → u.cells ≡ t.cells
@@ -48,10 +47,6 @@ performed t u i j call answer turn beneath =
 abbrev pub over : Table → List Worker → ℕ → ℕ → Model
 over t xs n m = record { workers = n; worker = seated xs; cells = t.cells; lists = t.versions; commits = m }
 
--- no such worker
-pub no_worker : (m : Model) (w : ℕ) (d : Done) → m.workers ≤ w → deny_by NoWorker m ≡ with_a_worker m w d
-no_worker m w d le = rw (le-ltb w m.workers le)
-
 module _ (t u : Table) (xs : List Worker) (n m w : ℕ) (x y : Worker) (within : w < n) (places : w < length xs) (is : x ≡ get_or xs w x) (a : Outcome ℕ) where
   pub here : seated xs w ≡ x
   here = seated_at xs w x places ∙ sym is
@@ -65,10 +60,6 @@ module _ (t u : Table) (xs : List Worker) (n m w : ℕ) (x y : Worker) (within :
   lifted_both f same h =
       (λ i. (a, record { workers = n; worker = seated_set xs w y places i; cells = same i; lists = u.versions; commits = m })) ∙
       ap (in_both (over t xs n m) w) (h ∙ ap f (sym here)) ∙ sym (rw (lt-ltb w n within))
-
--- a map just made is the rules' new map
-pub made_map : (t u : Table) (i : Crew) (n : ℕ) → Cleared t u → vec_items i.workers ≡ replicate 16 new_worker → i.count ≡ workers_of n → i.commits ≡ 0 → plate u i ≡ new_map n t.cells
-made_map t u i n clear new count none = λ k. record { workers = count k; worker = (ap seated new ∙ seated_new 16) k; cells = clear.cells k; lists = clear.versions k; commits = none k }
 
 -- a run and one call more
 pub one_more_event : (workers cells : ℕ) (es : List Event) (t u : Table) (i j : Crew) (call : Call) (answer : Outcome ℕ) → Run workers cells es t (plate t i) → Performed t i call answer u j → Run workers cells (record { call = call; answer = answer } ∷ es) u (plate u j)

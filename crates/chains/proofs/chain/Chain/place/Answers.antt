@@ -1,19 +1,5 @@
-use Rattle.std.proofs.Common.{[], refl, ap}
-use Rattle.chains.specs.Chain.{path, met}
-use Rattle.chains.specs.declared.chain.Chain.{Chain}
 use Rattle.chains.proofs.Walks.{passing_on, placed_at, placed_end}
 use Rattle.chains.proofs.chain.Chain.place.Goals as goal
-
-pub loop-at-init : goal.loop-at-init
-loop-at-init c =
-    record {
-      front = [];
-      back = path c.args.self.records.now c.args.self.first;
-      split = refl;
-      behind = ap (λ (d : Chain). met d.records.now d.first) c.into_iter-at-iterator.ensures.into_iter_gives;
-      last = refl;
-      high = refl;
-    }
 
 pub returns-then-version-stamp : goal.returns-then-version-stamp
 returns-then-version-stamp c = placed_at c.loop-at.invariant c.in-Some.at c.in-Some.version _ c.in-Some.ensures.steps c.args.self.ends c.if-version-stamp.true

@@ -1,10 +1,9 @@
 use Rattle.std.proofs.Common.{refl, ap, rules}
-use Rattle.words.specs.Outcome.{accepted, refuse}
-use Rattle.words.proofs.Told.{told_exit}
+use Rattle.words.specs.Outcome.{accepted}
 use Rattle.std.specs.Vec.{with_item}
 use Rattle.rules.specs.Model.{with_commits}
 use Rattle.map.specs.Plate.{plate}
-use Rattle.map.proofs.Families.{commit_counted, commit_refused}
+use Rattle.map.proofs.Families.{commit_counted}
 use Rattle.map.proofs.crew.Crew.commit.Goals as goal
 
 pub returns : goal.returns
@@ -15,12 +14,3 @@ returns g c =
     commit_counted (g.T.VersionTable.meaning c.args.table.now) (g.T.VersionTable.meaning c.end.new.table) i c.args.worker c.worker.result.now c.end.new.self e.0 (search rules) c.worker.ensures.value (accepted c.in_ok-stamp.stamp)
     (record { workers = with_item i.workers c.args.worker c.end.new.self; count = i.count; commits = i.commits; full = i.full }) (λ v. refl)
     c.in_ok-stamp.stamp refl (rw e.1 at f.after) (rw e.1 at f.beneath) _ (ap (with_commits (plate (g.T.VersionTable.meaning c.end.new.table) (record { workers = with_item i.workers c.args.worker c.end.new.self; count = i.count; commits = i.commits; full = i.full }))) c.min-self.ensures) refl
-
-pub returns-in_err-stamp : goal.returns-in_err-stamp
-returns-in_err-stamp g c =
-    let i = c.args.self.now in
-    let e = c.in_ok-seat.ensures in
-    let f = c.in_err-stamp.ensures in
-    rw (told_exit c.from_residual-in_err-stamp.result _ c.from_residual-in_err-stamp.ensures.1)
-    (commit_refused (g.T.VersionTable.meaning c.args.table.now) (g.T.VersionTable.meaning c.end.new.table) i c.args.worker c.worker.result.now c.end.new.self e.0 (search rules) c.worker.ensures.value (refuse c.in_err-stamp.field-0.0) _ (λ v. refl)
-    _ _ refl (rw e.1 at f.after) f.beneath)
