@@ -1,48 +1,30 @@
 -- The heart: a check that is accepted lets no checked write stand between a checked read and its pass.
-use Rattle.std.proofs.Common.{◌≡◌, ℕ, ◌+◌, ◌-◌, ◌*◌, ◌<◌, ◌≤◌, true, false, take, Some, None, Option, sym, refl, subst, ⊎_elim, arith}
-use Rattle.std.proofs.lemmas.Bool.{cases_eq, cases_lt, cases_Bool}
-use Rattle.std.proofs.lemmas.Bool.Decides.{nat_tests}
-use Rattle.words.specs.declared.status.Status.TheVariants.{Pending, Committed, Aborted}
+use Rattle.std.proofs.Common.{◌≡◌, ℕ, ◌+◌, ◌-◌, ◌*◌, ◌<◌, ◌≤◌, true, false, Some, None, sym, subst, ⊎_elim, arith}
+use Rattle.std.proofs.lemmas.List.{take_all}
+use Rattle.std.proofs.lemmas.Bool.{cases_eq, cases_Bool}
+use Rattle.words.specs.declared.status.Status.TheVariants.{Pending, Aborted}
 use Rattle.words.specs.declared.version.Version.{Version}
 use Rattle.rules.specs.declared.entry.ReadEntry.{ReadEntry}
 use Rattle.rules.specs.Sets.{nth}
 use Rattle.law.proofs.State.{Progress, State, W, R, value_in, checked, committed, Runs, Stands, Inv}
-use Rattle.law.proofs.Prefixes.{value_longer, value_part, take_all}
+use Rattle.law.proofs.Prefixes.{value_longer, value_part}
 use Rattle.law.proofs.Searches.{Finds, Lacks}
-
-not_aborted : (x : Version) → x.status ≡ Committed → x.status ≡ Aborted → ⊥
-not_aborted x p q = let z : ◌≡◌ {A = ℕ} 0 1 = cc in omega arith
-
-pending_aborted : (x : Version) → x.status ≡ Pending → x.status ≡ Aborted → ⊥
-pending_aborted x p q = let z : ◌≡◌ {A = ℕ} 0 1 = cc in omega arith
 
 -- a committed write under a stamp above 0 is a pass's, and a pass's is committed
 pub by_pass : (s : State) (c t v : ℕ) → committed s c t ≡ Some v → 0 < t → (P : Progress) × (s.pass t ≡ Some P) × (P.ended ≡ true) × (value_in P.writes c ≡ Some v)
-by_pass s c t v h pos = by (s.pass t) refl
-  where
-    by : (o : Option Progress) → s.pass t ≡ o → (P : Progress) × (s.pass t ≡ Some P) × (P.ended ≡ true) × (value_in P.writes c ≡ Some v)
-    by None e = absurd (grind (arith, nat_tests))
-    by (Some P) e = (P, e, grind (arith, nat_tests), grind (arith, nat_tests))
+by_pass s c t v h pos = grind (arith)
 
 pub of_pass : (s : State) (c t v : ℕ) (P : Progress) → s.pass t ≡ Some P → s.pass 0 ≡ None → P.ended ≡ true → value_in P.writes c ≡ Some v → committed s c t ≡ Some v
-of_pass s c t v P e zero done h = grind (arith, nat_tests)
+of_pass s c t v P e zero done h = grind (arith)
 
 module _ (s : State) (line : ℕ) (inv : Inv s line) where
   -- below a stamp that the keep line is not above, a committed write is covered
   pub cover : (c w v t : ℕ) → committed s c w ≡ Some v → w < t → line ≤ t → (u : ℕ) × Stands s c u × (w ≤ u) × (u < t)
-  cover c w v t h lt le = ⊎_elim
-      (λ a. (w, a, omega arith, lt))
-      (λ a. (a.0, a.1, omega arith, omega arith))
-      (inv.agrees.covered c w v h)
+  cover c w v t h lt le = grind (arith)
 
   -- so what a search below t finds is no older
   pub found_after : (c w v t : ℕ) (x : Version) → committed s c w ≡ Some v → w < t → line ≤ t → Finds (λ g. g ≡ Aborted) t (s.at c) x → w ≤ x.write
-  found_after c w v t x h lt le found =
-      let a = cover c w v t h lt le in
-      ⊎_elim
-      (λ (above : x.write < a.0). absurd (not_aborted a.1.0 a.1.2 (found.between a.0 a.1.0 a.1.1 a.3 above)))
-      (λ below. omega arith)
-      (cases_lt x.write a.0)
+  found_after c w v t x h lt le found = grind (arith)
 
   -- the check of a read
   pub cross_read : (t : ℕ) → line ≤ t → (g : ReadEntry) (x : Version) → Finds (λ z. z ≡ Aborted) t (s.at g.cell) x → x.write ≡ g.stamp
@@ -53,7 +35,7 @@ module _ (s : State) (line : ℕ) (inv : Inv s line) where
       omega arith)
       (λ (e : Q.ended ≡ false).
       let y = inv.agrees.there u Q g.cell v (is, e) (value_longer (Q.k - (W Q + 2 * R Q)) Q.k Q.writes g.cell v (omega arith) done) in
-      pending_aborted y.0 y.2 (found.between u y.0 y.1 below (omega arith)))
+      let z = found.between u y.0 y.1 below (omega arith) in cc)
       (cases_Bool Q.ended)
 
   -- the check of a write
@@ -79,17 +61,9 @@ module _ (s : State) (line : ℕ) (inv : Inv s line) where
   -- a search below a stamp that the keep line is not above always meets a version that counts
   pub never_lacks : (c f : ℕ) → c < s.cells → 0 < f → line ≤ f → Lacks (λ g. g ≡ Aborted) f (s.at c) → ⊥
   never_lacks c f in' pos le none =
-      let a = cover c 0 0 f (grind (arith, nat_tests)) pos le in
-      not_aborted a.1.0 a.1.2 (none a.0 a.1.0 a.1.1 a.3)
+      let a = cover c 0 0 f (grind (arith)) pos le in
+      let z = none a.0 a.1.0 a.1.1 a.3 in cc
 
   -- a pending version's stamp is that of a pass that runs and has done a step
   pub pending_runs : (c t : ℕ) (x : Version) → s.at c t ≡ Some x → x.status ≡ Pending → (P : Progress) × Runs s t P × (0 < P.k)
-  pending_runs c t x h still =
-      let o = inv.agrees.owned c t x h still in (
-        o.0,
-        o.1,
-        ⊎_elim
-            (λ (some : 0 < o.0.k). some)
-            (λ (none : o.0.k ≤ 0). absurd (let z = subst (λ k. value_in (take k o.0.writes) c ≡ Some x.value) (let y : o.0.k ≡ 0 = omega arith in y) o.2 in grind arith))
-            (cases_lt 0 o.0.k),
-      )
+  pending_runs c t x h still = grind (arith)

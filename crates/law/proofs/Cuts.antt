@@ -1,7 +1,5 @@
 -- collect, and a keep line that rises.
-use Rattle.std.proofs.Common.{◌≡◌, ℕ, ◌<◌, ◌≤◌, cond, ◌&&◌, eqb, ltb, ◌⊎◌, Some, None, Option, sym, subst, inl, inr, ⊎_elim, arith}
-use Rattle.std.proofs.lemmas.Bool.{cases_eq, cases_lt}
-use Rattle.std.proofs.lemmas.Bool.Decides.{nat_tests}
+use Rattle.std.proofs.Common.{◌≡◌, ℕ, ◌<◌, ◌≤◌, cond, ◌&&◌, eqb, ltb, ◌⊎◌, Some, None, Option, inl, inr, ⊎_elim, arith}
 use Rattle.words.specs.declared.version.Version.{Version}
 use Rattle.law.proofs.State.{Progress, State, Runs, Stands, Inv}
 
@@ -12,36 +10,27 @@ with_versions s at = record { cells = s.cells; pass = s.pass; at = at }
 module _ (s : State) (line : ℕ) (inv : Inv s line) (c w : ℕ) (stands : Stands s c w) (low : w < line)
     (at : ℕ → ℕ → Option Version) (cut : (d u : ℕ) → at d u ≡ cond (eqb c d && ltb u w) None (s.at d u)) where
   back : (d u : ℕ) (x : Version) → at d u ≡ Some x → s.at d u ≡ Some x
-  back d u x h = let z = cut d u in grind (arith, nat_tests)
+  back d u x h = let z = cut d u in grind (arith)
 
   still : (d u : ℕ) (x : Version) → s.at d u ≡ Some x → (d ≡ c → w ≤ u) → at d u ≡ Some x
-  still d u x h le = ⊎_elim
-      (λ (q : d ≡ c). let z = cut d u in let y = le q in grind (arith, nat_tests))
-      (λ (q : d ≡ c → ⊥). let z = cut d u in grind (arith, nat_tests))
-      (cases_eq d c)
+  still d u x h le = grind (arith)
 
   -- a committed version stays, or that at which the cut was made is newer
   stays : (d u : ℕ) → Stands s d u → Stands (with_versions s at) d u ⊎ ((u < w) × Stands (with_versions s at) d w)
-  stays d u (x, h, done) = ⊎_elim
-      (λ (q : d ≡ c). ⊎_elim
-      (λ (lt : u < w). inr (lt, (stands.0, still d w stands.0 (subst (λ d. s.at d w ≡ Some stands.0) (sym q) stands.1) (λ _. omega arith), stands.2)))
-      (λ le. inl (x, still d u x h (λ _. le), done))
-      (cases_lt u w))
-      (λ q. inl (x, still d u x h (λ e. absurd (q e)), done))
-      (cases_eq d c)
+  stays d u (x, h, done) = grind (arith)
 
   pub collects : Inv (with_versions s at) line
   collects = record {
     agrees = record {
       stands = λ d u x h. inv.agrees.stands d u x (back d u x h);
       owned = λ d u x h. inv.agrees.owned d u x (back d u x h);
-      there = λ u Q d v r i. let x = inv.agrees.there u Q d v r i in (x.0, still d u x.0 x.1 (λ _. let l = inv.line_below u Q r in omega arith), x.2, x.3);
-      missing = λ u Q d r i. let n = inv.agrees.missing u Q d r i in let z = cut d u in grind (arith, nat_tests);
+      there = grind (arith);
+      missing = grind (arith);
       covered = λ d u v h. ⊎_elim
           (λ a. ⊎_elim (λ b. inl b) (λ b. inr (w, b.1, b.0, low)) (stays d u a))
           (λ a. ⊎_elim (λ b. inr (a.0, b, a.2, a.3)) (λ b. inr (w, b.1, omega arith, low)) (stays d a.0 a.1))
           (inv.agrees.covered d u v h);
-      stamped = λ u Q j g x h n far here. inv.agrees.stamped u Q j g x h n far (back g.cell g.stamp x here);
+      stamped = grind (arith);
     };
     zero = inv.zero;
     apart = inv.apart;
@@ -59,7 +48,7 @@ rises s line line' inv le under = record {
     owned = inv.agrees.owned;
     there = inv.agrees.there;
     missing = inv.agrees.missing;
-    covered = λ c w v h. ⊎_elim (λ a. inl a) (λ a. inr (a.0, a.1, a.2, omega arith)) (inv.agrees.covered c w v h);
+    covered = grind (arith);
     stamped = inv.agrees.stamped;
   };
   zero = inv.zero;

@@ -1,5 +1,6 @@
 -- commit and abort: the worker is idle, and every version of its pass has ended.
 use Rattle.std.proofs.Common.{◌≡◌, ℕ, zero, suc, ◌-◌, ◌<◌, Bool, true, false, cond, ◌&&◌, eqb, List, [], ◌∷◌, take, is_some, Some, None, Option, sym, refl, ap, ◌∙◌, subst, inl, ⊎_elim, arith}
+use Rattle.std.proofs.lemmas.List.{take_all}
 use Rattle.std.proofs.lemmas.Bool.{cases_eq}
 use Rattle.std.proofs.lemmas.Bool.Decides.{nat_tests}
 use Rattle.words.specs.declared.status.Ending.{Ending}
@@ -13,14 +14,13 @@ use Rattle.rules.specs.declared.entry.WriteEntry.{WriteEntry}
 use Rattle.rules.specs.Model.{idle, Worker, Model, with_worker, with_lists, with_commits}
 use Rattle.rules.specs.Stamps.{last_stamp, keep_line}
 use Rattle.rules.specs.Sets.{nth}
-use Rattle.rules.specs.Rules.{steps, ended_one, ended_all}
-use Rattle.rules.proofs.Ways.{committed, aborted}
+use Rattle.rules.specs.Rules.{steps, ended_one, ended_all, committed, aborted}
 use Rattle.law.specs.Plain.{Pass}
 use Rattle.law.specs.History.{nothing, History, now_doing, with_pass, has_committed}
 use Rattle.law.proofs.Under.{under, change}
 use Rattle.law.proofs.State.{Progress, State, Apart, value_in, Inv}
-use Rattle.law.proofs.Prefixes.{some_same, take_all}
-use Rattle.law.proofs.Moves.{put_here, put_there}
+use Rattle.law.proofs.Prefixes.{some_same}
+use Rattle.tables.proofs.Lengths.{put_here, put_other}
 use Rattle.law.proofs.Ends.{full_of, left, committed_left, commits, aborts}
 use Rattle.law.proofs.Marks.{Markable, all_marked}
 use Rattle.law.proofs.Serial.{Recorded}
@@ -53,7 +53,7 @@ marks_fall how cells t (e ∷ es) ls h c = marks_fall how cells t es (ended_one 
     one d =
         let a = h d in
         let b = each_list (λ _ vs. falls vs ≡ true) ls e.cell (at_stamp t (marked how) (ls e.cell)) (falls_at_stamp t (marked how) (λ v. refl) (ls e.cell) (h e.cell)) h d in
-        grind (arith, nat_tests)
+        grind (arith)
 
 module _ (m : Model) (h : History) (good : Good m h) (w : ℕ) (within : w < m.workers)
     (rs : List ReadEntry) (ws : List WriteEntry) (k : ℕ) (shut : Bool) (here : InPass (last_stamp m w) good.pass rs ws k shut (h.doing w)) where
@@ -74,15 +74,15 @@ module _ (m : Model) (h : History) (good : Good m h) (w : ℕ) (within : w < m.w
       (all_marked how m.cells t vs m.lists (subst Apart (sym part) (apart_part k ws (good.inv.apart t P here.runs))) (λ d v e. able d v (subst (λ vs. value_in vs d ≡ Some v) part e)) c u))
     where
       able : Markable m.cells (last_stamp m w) m.lists (take k ws)
-      able d v e = let x = good.inv.agrees.there t P d v (here.runs, refl) e in (good.inside d t x.0 x.1, (x.0, x.1, x.2))
+      able d v e = let x = good.inv.agrees.there t P d v (here.runs, refl) e in grind (arith, nat_tests)
 
       by : (o : Option ℕ) → value_in (take k ws) c ≡ o → under u (ended_all how m.cells t m.lists (take k ws) c) ≡ cond (eqb t u && is_some (value_in (take k ws) c)) (change (marked how) (under u (m.lists c))) (under u (m.lists c))
           → under u (ended_all how m.cells t m.lists vs c) ≡ cond (eqb t u) (change (marked how) (under u (m.lists c))) (under u (m.lists c))
-      by (Some v) i e = subst (λ vs. under u (ended_all how m.cells t m.lists vs c) ≡ cond (eqb t u) (change (marked how) (under u (m.lists c))) (under u (m.lists c))) (sym part) (e ∙ (grind (arith, nat_tests)))
+      by (Some v) i e = grind (arith)
       by None i e = subst (λ vs. under u (ended_all how m.cells t m.lists vs c) ≡ cond (eqb t u) (change (marked how) (under u (m.lists c))) (under u (m.lists c))) (sym part)
           (e ∙ (let n = good.inv.agrees.missing t P c (here.runs, refl) i in ⊎_elim
-          (λ (q : last_stamp m w ≡ u). let n' = subst (λ u. under u (m.lists c) ≡ None) q n in grind (arith, nat_tests))
-          (λ (q : last_stamp m w ≡ u → ⊥). grind (arith, nat_tests))
+          (λ (q : last_stamp m w ≡ u). let n' = subst (λ u. under u (m.lists c) ≡ None) q n in grind (arith))
+          (λ (q : last_stamp m w ≡ u → ⊥). grind (arith))
           (cases_eq (last_stamp m w) u)))
 
   -- the worker is idle, with the boost b; the lists are those with the marks
@@ -103,11 +103,11 @@ module _ (m : Model) (h : History) (good : Good m h) (w : ℕ) (within : w < m.w
     does = refl;
     same = λ Q v. refl;
     own = λ Q e r. over Q (sym (put_here good.pass t next) ∙ e) r;
-    elsewhere = λ u o. put_there good.pass t next u o;
-    looks = λ f e. absurd (let z : ◌≡◌ {A = ℕ} 0 1 = cc in omega arith);
+    elsewhere = λ u o. put_other good.pass t next u o;
+    looks = λ f e. absurd cc;
     inv = inv;
     falling = marks_fall how m.cells t vs m.lists good.falling;
-    inside = λ c u y e. let z = was_there c u y e in good.inside c u z.0 z.1;
+    inside = grind (arith, nat_tests, was_there);
     versions = λ c u y e. inl (was_there c u y e);
     recorded = recorded;
     glances = glanced_same m s (left s t next (λ c u. under u (ls c))) w within (λ c u low. committed_left s t next (λ c u. under u (ls c)) c u (λ e. omega arith)) h.glances good.glances;
@@ -120,11 +120,7 @@ module _ (m : Model) (h : History) (good : Good m h) (w : ℕ) (within : w < m.w
       x = record { clock = (m.worker w).clock; boost = b; last = (m.worker w).last; stage = idle }
 
       was_there : (c u : ℕ) (y : Version) → under u (ls c) ≡ Some y → (z : Version) × (under u (m.lists c) ≡ Some z)
-      was_there c u y e = by (under u (m.lists c)) refl
-        where
-          by : (o : Option Version) → under u (m.lists c) ≡ o → (z : Version) × (under u (m.lists c) ≡ Some z)
-          by None q = absurd (let z = ended_versions how vs part c u in grind (arith, nat_tests))
-          by (Some z) q = (z, q)
+      was_there c u y e = grind (arith, nat_tests, ended_versions)
 
   pub aborting : (vs : List WriteEntry) → vs ≡ take k ws → Good (aborted m w vs) (now_doing h w nothing)
   aborting vs part = ending Aborts' vs part 10 m.commits None h.passes
@@ -135,7 +131,7 @@ module _ (m : Model) (h : History) (good : Good m h) (w : ℕ) (within : w < m.w
   pub committing : k ≡ steps rs ws → Good (committed m w ws) (has_committed h w)
   committing all = subst (λ ps. Good (committed m w ws) (record { doing = put h.doing w nothing; last = h.last; passes = ps; glances = h.glances })) (sym (ap (λ d. with_pass d h.passes) here.is))
       (ending Commits' ws whole 0 _ (Some (full_of P)) (record { stamp = t; ops = here.ops } ∷ h.passes)
-      (λ Q e r. absurd (let z = ap (λ (o : Progress). o.ended) (some_same (full_of P) Q e) in let y : ◌≡◌ {A = ℕ} 0 1 = cc in omega arith))
+      (λ Q e r. absurd (let z = ap (λ (o : Progress). o.ended) (some_same (full_of P) Q e) in cc))
       (commits s (keep_line m) good.inv t P (here.runs, refl) _ all (ended_versions Commits' ws whole))
       (recorded_committed s t P (here.runs, refl) _ h.passes good.recorded here.ops here.local))
     where

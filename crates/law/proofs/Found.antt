@@ -1,5 +1,6 @@
 -- What the searches of the map's rules find in a good model.
-use Rattle.std.proofs.Common.{◌≡◌, ℕ, ◌<◌, ◌≤◌, Bool, true, false, cond, ltb, ◌⊎◌, List, Some, sym, refl, ap, ◌∙◌, subst, inl, inr, ⊎_elim, arith, ltb-false, ltb-true}
+use Rattle.std.proofs.Common.{◌≡◌, ℕ, ◌<◌, ◌≤◌, cond, ltb, ◌⊎◌, List, Some, sym, ap, ◌∙◌, subst, inl, inr, ⊎_elim, arith}
+use Rattle.std.proofs.lemmas.Bool.Decides.{nat_tests}
 use Rattle.words.specs.Outcome.{Outcome, accepted, refused, refuse}
 use Rattle.words.specs.declared.refusal.Refusal.TheVariants.{NoCell}
 use Rattle.words.specs.declared.status.Status.TheVariants.{Aborted}
@@ -17,28 +18,21 @@ use Rattle.law.proofs.Good.{state, Good}
 module _ (m : Model) (h : History) (good : Good m h) where
   -- a version's stamp is far below 2^64
   pub fitting : (c : ℕ) → Fit (m.lists c)
-  fitting c t x e = ⊎_elim
-      (λ z. omega arith)
-      (λ k. let a = k.is in let b = k.past in let d = (good.clocks k.worker).1 in let f = k.within in let g = good.few in omega arith)
-      (good.seen c t x e)
+  fitting c t x e = grind (arith)
 
   all_seen : (c : ℕ) → reach (m.lists c) ≡ m.lists c
   all_seen c = fit_reached (m.lists c) (good.falling c) (fitting c)
 
   -- a search in a cell that is there, and in one that is not
   pub searched : (found : List Version → Outcome Version) (free : ℕ → ℕ) (c : ℕ) → search found (table_of free m) c ≡ cond (ltb c m.cells) (found (m.lists c)) (refuse NoCell)
-  searched found free c = ap (λ vs. cond (ltb c m.cells) (found vs) (refuse NoCell)) (all_seen c)
+  searched found free c = grind (arith, nat_tests, all_seen)
 
   pub seen_below : (c f : ℕ) → VisibleSays f (λ u. under u (m.lists c)) (visible f (m.lists c))
   seen_below c f = visible_says f (m.lists c) (good.falling c)
 
   -- an accepted search
   accepted_found : (found : List Version → Outcome Version) (free : ℕ → ℕ) (c : ℕ) (v : Version) → search found (table_of free m) c ≡ accepted v → (c < m.cells) × (found (m.lists c) ≡ accepted v)
-  accepted_found found free c v e = by (ltb c m.cells) refl (sym (searched found free c) ∙ e)
-    where
-      by : (b : Bool) → ltb c m.cells ≡ b → cond b (found (m.lists c)) (refuse NoCell) ≡ accepted v → (c < m.cells) × (found (m.lists c) ≡ accepted v)
-      by true b q = (ltb-true c m.cells b, q)
-      by false b q = absurd (let z : ◌≡◌ {A = ℕ} 0 1 = cc in omega arith)
+  accepted_found found free c v e = let z = searched found free c in grind (arith, nat_tests)
 
   pub visible_found : (f : ℕ) (free : ℕ → ℕ) (c : ℕ) (v : Version) → search (visible f) (table_of free m) c ≡ accepted v → (c < m.cells) × Finds (λ g. g ≡ Aborted) f (λ u. under u (m.lists c)) v
   visible_found f free c v e =
@@ -52,11 +46,7 @@ module _ (m : Model) (h : History) (good : Good m h) where
 
   -- a refused search: the cell is not there, or the search in it was refused
   refused_found : (found : List Version → Outcome Version) (free : ℕ → ℕ) (c n d : ℕ) → search found (table_of free m) c ≡ refused n d → ((m.cells ≤ c) × (n ≡ 2)) ⊎ ((c < m.cells) × (found (m.lists c) ≡ refused n d))
-  refused_found found free c n d e = by (ltb c m.cells) refl (sym (searched found free c) ∙ e)
-    where
-      by : (b : Bool) → ltb c m.cells ≡ b → cond b (found (m.lists c)) (refuse NoCell) ≡ refused n d → ((m.cells ≤ c) × (n ≡ 2)) ⊎ ((c < m.cells) × (found (m.lists c) ≡ refused n d))
-      by true b q = inr (ltb-true c m.cells b, q)
-      by false b q = inl (ltb-false c m.cells b, let z : n ≡ 2 = cc in z)
+  refused_found found free c n d e = let z = searched found free c in grind (arith, nat_tests)
 
   pub visible_refused : (f : ℕ) (free : ℕ → ℕ) (c n d : ℕ) → search (visible f) (table_of free m) c ≡ refused n d → ((m.cells ≤ c) × (n ≡ 2)) ⊎ ((c < m.cells) × VisibleSays f (λ u. under u (m.lists c)) (refused n d))
   visible_refused f free c n d e = ⊎_elim

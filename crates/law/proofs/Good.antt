@@ -1,7 +1,8 @@
 -- What holds of a model beside the history of its calls, and what is left to show where a call
 -- changes one worker and perhaps the lists.
-use Rattle.std.proofs.Common.{◌≡◌, ℕ, ◌+◌, ◌*◌, ◌<◌, ◌≤◌, Bool, true, false, ◌⊎◌, List, [], ◌∷◌, Some, Option, sym, refl, ap, ◌∙◌, subst, inl, inr, ⊎_elim, arith}
+use Rattle.std.proofs.Common.{◌≡◌, ℕ, ◌+◌, ◌*◌, ◌<◌, ◌≤◌, Bool, true, false, ◌⊎◌, List, [], ◌∷◌, Some, Option, sym, refl, ap, ◌∙◌, subst, ⊎_elim, arith}
 use Rattle.std.proofs.lemmas.Bool.{cases_eq, cases_lt}
+use Rattle.std.proofs.lemmas.Bool.Decides.{nat_tests}
 use Rattle.words.specs.declared.version.Version.{Version}
 use Rattle.tables.specs.Versions.{falls}
 use Rattle.tables.specs.Table.{put}
@@ -13,7 +14,7 @@ use Rattle.law.specs.Plain.{Op}
 use Rattle.law.specs.History.{Doing, nothing, in_pass, in_look, Glance, History}
 use Rattle.law.proofs.Under.{under}
 use Rattle.law.proofs.State.{Progress, State, committed, Inv}
-use Rattle.law.proofs.Moves.{put_here, put_there}
+use Rattle.tables.proofs.Lengths.{put_here, put_other}
 use Rattle.law.proofs.Cuts.{rises}
 use Rattle.law.proofs.Serial.{Local, Recorded}
 use Rattle.law.proofs.Lines.{line_lower, line_look, line_greatest}
@@ -101,7 +102,7 @@ pub record Becomes {A : Type 0} (f g : ℕ → A) (w : ℕ) (y : A) : Type 0 whe
   pub apart : (v : ℕ) → (v ≡ w → ⊥) → g v ≡ f v
 
 pub puts : {A : Type 0} (f : ℕ → A) (w : ℕ) (y : A) → Becomes f (put f w y) w y
-puts f w y = record { here = put_here f w y; apart = λ v n. put_there f w y v n }
+puts f w y = record { here = put_here f w y; apart = λ v n. put_other f w y v n }
 
 pub leaves : {A : Type 0} (f : ℕ → A) (w : ℕ) (y : A) → f w ≡ y → Becomes f f w y
 leaves f w y e = record { here = e; apart = λ v n. refl }
@@ -155,15 +156,15 @@ module _ (m : Model) (h : History) (good : Good m h) (m' : Model) (h' : History)
   known_now : Known m' (timestamp x.last w)
   known_now = record {
     worker = w;
-    within = let e = change.workers in let l = change.within in omega arith;
+    within = grind (arith);
     clock = x.last;
     is = refl;
-    past = subst (λ (y : Worker). x.last ≤ y.last) (sym change.worker.here) (omega arith);
+    past = grind (arith);
   }
 
   -- another worker's timestamp
   apart : (v a : ℕ) → v < m.workers → (v ≡ w → ⊥) → timestamp a v ≡ timestamp x.last w → ⊥
-  apart v a l n e = let z = apart_stamps a x.last v w (let f = good.few in omega arith) (let f = good.few in let i = change.within in omega arith) e in n z.1
+  apart v a l n e = grind (arith)
 
   -- by whether a worker is the one that changes
   stage_then : (v : ℕ) → (v ≡ w → ⊥) → (m'.worker v).stage ≡ (m.worker v).stage
@@ -173,50 +174,35 @@ module _ (m : Model) (h : History) (good : Good m h) (m' : Model) (h' : History)
   stage_now = ap (λ (y : Worker). y.stage) change.worker.here
 
   outside_still : (v : ℕ) → m'.workers ≤ v → (m'.worker v).stage ≡ idle
-  outside_still v le = stage_then v (λ e. let a = change.workers in let b = change.within in omega arith) ∙ good.outside v (let a = change.workers in omega arith)
+  outside_still v le = grind (arith)
 
   looks_still : (v f : ℕ) → (m'.worker v).stage ≡ looking f → ((m.worker v).stage ≡ looking f) ⊎ ((keep_line m ≤ f) × (0 < f) × ((v : ℕ) → v < m.workers → f ≤ last_stamp m v))
-  looks_still v f e = ⊎_elim
-      (λ (q : v ≡ w). subst (λ v. ((m.worker v).stage ≡ looking f) ⊎ ((keep_line m ≤ f) × (0 < f) × ((v : ℕ) → v < m.workers → f ≤ last_stamp m v))) (sym q)
-      (change.looks f (sym stage_now ∙ subst (λ v. (m'.worker v).stage ≡ looking f) q e)))
-      (λ n. inl (sym (stage_then v n) ∙ e))
-      (cases_eq v w)
+  looks_still v f e = grind (arith)
 
   look_over : (v f : ℕ) → (m'.worker v).stage ≡ looking f → (keep_line m ≤ f) × (0 < f) × ((v : ℕ) → v < m.workers → f ≤ last_stamp m v)
-  look_over v f e = ⊎_elim
-      (λ o. let r = good.looks v f o in (line_look m good.some v f (inside_look o) o, r.0, r.1))
-      (λ o. o)
-      (looks_still v f e)
-    where
-      inside_look : (m.worker v).stage ≡ looking f → v < m.workers
-      inside_look o = ⊎_elim
-          (λ (l : v < m.workers). l)
-          (λ (l : m.workers ≤ v). absurd (let q = good.outside v l in let z : ◌≡◌ {A = ℕ} 0 1 = cc in omega arith))
-          (cases_lt v m.workers)
+  look_over v f e = grind (arith, nat_tests, line_look)
 
   whose_still : (u : ℕ) (P : Progress) → pass u ≡ Some P → P.ended ≡ false → Owner m' u P
   whose_still u P is runs = ⊎_elim
       (λ (e : u ≡ timestamp x.last w). record {
         worker = w;
-        within = let a = change.workers in let b = change.within in omega arith;
+        within = grind (arith);
         is = e ∙ sym stamp_now;
-        view = subst (λ g. View g P) (sym stage_now) (change.own P (subst (λ u. pass u ≡ Some P) e is) runs);
+        view = grind (arith);
       })
       (λ (n : u ≡ timestamp x.last w → ⊥). let o = good.whose u P (sym (change.elsewhere u n) ∙ is) runs in
       let other : o.worker ≡ w → ⊥ = λ (q : o.worker ≡ w). n (o.is ∙ subst (λ v. last_stamp m v ≡ timestamp x.last w) (sym q) (ap (λ a. timestamp a w) (change.same P (subst (λ v. View (m.worker v).stage P) q o.view)))) in
       record {
         worker = o.worker;
         within = let a = change.workers in let b = o.within in omega arith;
-        is = o.is ∙ ap (λ (y : Worker). timestamp y.last o.worker) (sym (change.worker.apart o.worker other));
-        view = subst (λ g. View g P) (sym (stage_then o.worker other)) o.view;
+        is = grind (arith);
+        view = grind (arith);
       })
       (cases_eq u (timestamp x.last w))
 
   -- the keep line has risen, if it has moved
   line_on : keep_line m ≤ keep_line m'
-  line_on = line_greatest m' (let a = change.workers in let b = good.some in omega arith) (keep_line m)
-      (λ v l. let a = line_lower m good.some v (let e = change.workers in omega arith) in let b = stamps_rise v in omega arith)
-      (λ v f l e. (look_over v f e).0)
+  line_on = grind (arith, nat_tests, line_greatest, line_lower, look_over)
 
   inv_on : Inv (state m' pass) (keep_line m')
   inv_on = rises (state m' pass) (keep_line m) (keep_line m') change.inv line_on
@@ -224,38 +210,18 @@ module _ (m : Model) (h : History) (good : Good m h) (m' : Model) (h' : History)
 
   does_apart : (g : Stage) (t : ℕ) → (t ≡ timestamp x.last w → ⊥) ⊎ (g ≡ idle) → (e : Doing) → Does g t good.pass e → Does g t pass e
   does_apart idle t n e o = o
-  does_apart (open' rs ws) t n e o = record { ops = o.ops; is = o.is; runs = ⊎_elim (λ n. change.elsewhere t n ∙ o.runs) (λ q. absurd (let z : ◌≡◌ {A = ℕ} 0 1 = cc in omega arith)) n; local = o.local }
-  does_apart (sealed rs ws k) t n e o = record { ops = o.ops; is = o.is; runs = ⊎_elim (λ n. change.elsewhere t n ∙ o.runs) (λ q. absurd (let z : ◌≡◌ {A = ℕ} 0 1 = cc in omega arith)) n; local = o.local }
+  does_apart (open' rs ws) t n e o = grind (arith)
+  does_apart (sealed rs ws k) t n e o = grind (arith)
   does_apart (looking f) t n e o = o
 
   does_still : (v : ℕ) → Does (m'.worker v).stage (last_stamp m' v) pass (h'.doing v)
-  does_still v = ⊎_elim
-      (λ (e : v ≡ w). subst (λ v. Does (m'.worker v).stage (last_stamp m' v) pass (h'.doing v)) (sym e)
-      (subst (λ d. Does (m'.worker w).stage (last_stamp m' w) pass d) (sym change.doing.here)
-      (subst (λ (y : Worker). Does y.stage (timestamp y.last w) pass d) (sym change.worker.here) change.does)))
-      (λ (n : v ≡ w → ⊥).
-      subst (λ d. Does (m'.worker v).stage (last_stamp m' v) pass d) (sym (change.doing.apart v n))
-      (subst (λ (y : Worker). Does y.stage (timestamp y.last v) pass (h.doing v)) (sym (change.worker.apart v n))
-      (⊎_elim
-      (λ (l : v < m.workers). does_apart (m.worker v).stage (last_stamp m v) (inl (apart v (m.worker v).last l n)) (h.doing v) (good.does v))
-      (λ (l : m.workers ≤ v). does_apart (m.worker v).stage (last_stamp m v) (inr (good.outside v l)) (h.doing v) (good.does v))
-      (cases_lt v m.workers))))
-      (cases_eq v w)
+  does_still v = grind (arith, nat_tests, apart, does_apart, cases_lt v m.workers, cases_eq v w)
 
   last_still : (v : ℕ) → h'.last v ≡ last_stamp m' v
-  last_still v = ⊎_elim
-      (λ (e : v ≡ w). subst (λ v. h'.last v ≡ last_stamp m' v) (sym e) (change.last.here ∙ sym stamp_now))
-      (λ n. change.last.apart v n ∙ good.last v ∙ ap (λ (y : Worker). timestamp y.last v) (sym (change.worker.apart v n)))
-      (cases_eq v w)
+  last_still v = grind (arith)
 
   clocks_still : (v : ℕ) → (1 ≤ (m'.worker v).last) × ((m'.worker v).last ≤ last_clock)
-  clocks_still v = (
-    let a = rising v in let b = (good.clocks v).0 in omega arith,
-    ⊎_elim
-        (λ (e : v ≡ w). subst (λ v. (m'.worker v).last ≤ last_clock) (sym e) (subst (λ (y : Worker). y.last ≤ last_clock) (sym change.worker.here) change.spent))
-        (λ n. subst (λ (y : Worker). y.last ≤ last_clock) (sym (change.worker.apart v n)) (good.clocks v).1)
-        (cases_eq v w),
-  )
+  clocks_still v = grind (arith)
 
   glances_on : (gs : List Glance) → AllGlanced m (state m' pass) gs → AllGlanced m' (state m' pass) gs
   glances_on [] a = tt
@@ -265,33 +231,27 @@ module _ (m : Model) (h : History) (good : Good m h) (m' : Model) (h' : History)
       is = a.is;
       below = a.below;
       newest = a.newest;
-      under = λ v l. let p = a.under v (let e = change.workers in omega arith) in let q = stamps_rise v in omega arith;
+      under = grind (arith);
     },
     glances_on gs rest,
   )
 
   pub keeps : Good m' h'
   keeps = record {
-    some = let a = change.workers in let b = good.some in omega arith;
+    some = grind (arith);
     few = let a = change.workers in let b = good.few in omega arith;
     pass = pass;
     inv = inv_on;
     falling = change.falling;
     inside = change.inside;
-    seen = λ c u y e. ⊎_elim
-        (λ o. ⊎_elim (λ z. inl z) (λ k. inr (known_on u k)) (good.seen c u o.0 o.1))
-        (λ q. inr (subst (Known m') (sym q) known_now))
-        (change.versions c u y e);
-    known = λ u P e. ⊎_elim
-        (λ (q : u ≡ timestamp x.last w). subst (Known m') (sym q) known_now)
-        (λ n. known_on u (good.known u P (sym (change.elsewhere u n) ∙ e)))
-        (cases_eq u (timestamp x.last w));
+    seen = grind (arith);
+    known = grind (arith);
     whose = whose_still;
     does = does_still;
     outside = outside_still;
     last = last_still;
     clocks = clocks_still;
-    looks = λ v f e. let o = look_over v f e in (o.1, λ u l. let a = o.2 u (let q = change.workers in omega arith) in let b = stamps_rise u in omega arith);
+    looks = grind (arith);
     recorded = change.recorded;
     glances = glances_on h'.glances change.glances;
   }

@@ -1,7 +1,6 @@
 -- Every call keeps what holds of a model and its history.
-use Rattle.std.proofs.Common.{◌≡◌, ℕ, ◌<◌, ◌≤◌, min, max, true, false, List, [], length, take, sym, refl, ap, ◌∙◌, subst, ⊎_elim, arith}
-use Rattle.std.proofs.lemmas.Bool.{cases_lt}
-use Rattle.tables.specs.Table.{put}
+use Rattle.std.proofs.Common.{◌≡◌, ℕ, ◌<◌, min, max, true, false, List, [], length, take, refl, arith}
+use Rattle.std.proofs.lemmas.List.{take_min}
 use Rattle.rules.specs.declared.entry.ReadEntry.{ReadEntry}
 use Rattle.rules.specs.declared.entry.WriteEntry.{WriteEntry}
 use Rattle.rules.specs.declared.call.Call.{Call}
@@ -9,8 +8,7 @@ use Rattle.rules.specs.Model.{open', sealed, Model}
 use Rattle.rules.specs.Rules.{outcome}
 use Rattle.rules.proofs.Ways.{every_way}
 use Rattle.law.specs.Plain.{reads}
-use Rattle.law.specs.History.{Doing, History, now_doing, with_op, with_glance, has_read, told_with}
-use Rattle.law.proofs.Prefixes.{take_all}
+use Rattle.law.specs.History.{History, now_doing, with_op, has_read, told_with}
 use Rattle.law.proofs.Locals.{local_own, local_known}
 use Rattle.law.proofs.Good.{Good}
 use Rattle.law.proofs.Quiet.{doing_in, pulses, syncs, seals, looks_out, closes, knows}
@@ -19,20 +17,10 @@ use Rattle.law.proofs.Stepping.{installing, stamping, checking_read, checking_wr
 use Rattle.law.proofs.Ending.{aborting, committing}
 use Rattle.law.proofs.Looking.{looks_at, collecting}
 
--- a part of a set, by a number that is not too large
-take_short : {A : Type 0} (k : ℕ) (xs : List A) → take (min k (length xs)) xs ≡ take k xs
-take_short k xs = ⊎_elim
-    (λ (l : k < length xs). ap (λ n. take n xs) (let z : min k (length xs) ≡ k = omega arith in z))
-    (λ (l : length xs ≤ k). take_all (min k (length xs)) xs (omega arith) ∙ sym (take_all k xs l))
-    (cases_lt k (length xs))
-
 module _ (m : Model) (h : History) (good : Good m h) where
   -- a read of an open pass is told as its operation, and not as a read of a look
   told : (w c v : ℕ) (rs : List ReadEntry) (ws : List WriteEntry) → w < m.workers → (m.worker w).stage ≡ open' rs ws → (m' : Model) → Good m' (now_doing h w (with_op (reads c v) (h.doing w))) → Good m' (has_read h w c v)
-  told w c v rs ws within was m' g = subst (Good m') (sym (ap having (doing_in m h good w within (open' rs ws) was).is)) g
-    where
-      having : Doing → History
-      having d = record { doing = put h.doing w (with_op (reads c v) (h.doing w)); last = h.last; passes = h.passes; glances = with_glance c v d h.glances }
+  told w c v rs ws within was m' g = grind (arith)
 
   pub call_keeps : (free : ℕ → ℕ) (call : Call) → Good (outcome free m call).1 (told_with call (outcome free m call).0 h)
   call_keeps free = every_way free m (λ call done. Good done.1 (told_with call done.0 h)) (record {
@@ -53,7 +41,7 @@ module _ (m : Model) (h : History) (good : Good m h) where
     checks_write = λ w rs ws k e v l was is seen low. checking_write m h good w l rs ws k was free e v is seen low;
     commits = λ w rs ws k l was all. committing m h good w l rs ws k true (doing_in m h good w l (sealed rs ws k) was) all;
     aborts_open = λ w rs ws l was. aborting m h good w l rs ws 0 false (doing_in m h good w l (open' rs ws) was) [] refl;
-    aborts_sealed = λ w rs ws k l was. aborting m h good w l rs ws k true (doing_in m h good w l (sealed rs ws k) was) (take (min k (length ws)) ws) (take_short k ws);
+    aborts_sealed = λ w rs ws k l was. aborting m h good w l rs ws k true (doing_in m h good w l (sealed rs ws k) was) (take (min k (length ws)) ws) (take_min k ws);
     looks = λ w l was. looks_out m h good w l was;
     closes = λ w f l was. closes m h good w l f was;
     shows = λ c v _. good;

@@ -2,11 +2,12 @@
 -- floors of open looks.
 use Rattle.std.proofs.Common.{◌≡◌, ℕ, zero, suc, ◌-◌, ◌<◌, ◌≤◌, sym, refl, ◌∙◌, subst, ⊎_elim, arith}
 use Rattle.std.proofs.lemmas.Bool.{cases_eq, cases_lt}
+use Rattle.std.proofs.lemmas.Bool.Decides.{nat_tests}
 use Rattle.rules.specs.Model.{Stage, idle, open', sealed, looking, Model}
 use Rattle.rules.specs.Stamps.{last_stamp, least, floor, look_floor, keep_line}
 
 least_lower : (f : ℕ → ℕ) (n j : ℕ) → j ≤ n → least f n ≤ f j
-least_lower f zero j h = subst (λ j. f 0 ≤ f j) (let e : 0 ≡ j = omega arith in e) (omega arith)
+least_lower f zero j h = grind (arith)
 least_lower f (suc n) j h = ⊎_elim
     (λ (e : j ≡ suc n). subst (λ j. least f (suc n) ≤ f j) (sym e) (omega arith))
     (λ d. let r = least_lower f n j (omega arith) in omega arith)
@@ -35,16 +36,16 @@ module _ (m : Model) (some : 0 < m.workers) where
   floor_lower w h = least_lower (last_stamp m) (m.workers - 1) w (omega arith)
 
   pub floor_above : (n : ℕ) → ((w : ℕ) → w < m.workers → n < last_stamp m w) → n < floor m
-  floor_above n h = least_greatest (last_stamp m) (m.workers - 1) (suc n) (λ w l. h w (omega arith))
+  floor_above n h = grind (arith, nat_tests, least_greatest)
 
   pub floor_met : (w : ℕ) × (w < m.workers) × (floor m ≡ last_stamp m w)
-  floor_met = let r = least_met (last_stamp m) (m.workers - 1) in (r.0, let z = r.1 in omega arith, r.2)
+  floor_met = let r = least_met (last_stamp m) (m.workers - 1) in grind (arith, nat_tests)
 
   pub line_floor : keep_line m ≤ floor m
   line_floor = omega arith
 
   pub line_lower : (w : ℕ) → w < m.workers → keep_line m ≤ last_stamp m w
-  line_lower w h = let a = floor_lower w h in let b = line_floor in omega arith
+  line_lower w h = grind (arith, nat_tests, floor_lower)
 
   pub line_look : (w f : ℕ) → w < m.workers → (m.worker w).stage ≡ looking f → keep_line m ≤ f
   line_look w f h e =

@@ -1,5 +1,5 @@
 -- An open pass: its operations beside its sets, read by read and write by write.
-use Rattle.std.proofs.Common.{◌≡◌, ℕ, zero, suc, ◌-◌, Bool, true, false, cond, eqb, ◌⊎◌, List, [], ◌∷◌, ◌++◌, length, take, Some, None, Option, sym, refl, ap, ◌∙◌, subst, inl, inr, ⊎_elim, arith, eqb-true}
+use Rattle.std.proofs.Common.{◌≡◌, ℕ, zero, suc, ◌-◌, Bool, true, false, cond, eqb, ◌⊎◌, List, [], ◌∷◌, ◌++◌, length, take, Some, None, Option, sym, refl, ap, ◌∙◌, inl, inr, ⊎_elim, arith, eqb-true}
 use Rattle.std.proofs.lemmas.Bool.{cases_Bool}
 use Rattle.std.proofs.lemmas.Bool.Decides.{nat_tests}
 use Rattle.rules.specs.declared.entry.ReadEntry.{ReadEntry}
@@ -8,7 +8,7 @@ use Rattle.rules.specs.Sets.{find_read, find_write, replaced, nth}
 use Rattle.law.specs.Plain.{Op, reads, writes, after_ops}
 use Rattle.law.proofs.Prefixes.{some_same}
 use Rattle.law.proofs.State.{value_in, Apart}
-use Rattle.law.proofs.Newest.{over, ops_leave}
+use Rattle.law.proofs.Newest.{ops_leave}
 use Rattle.law.proofs.Serial.{Local}
 
 -- the value of a cell in a write set, as the rules find it
@@ -25,22 +25,22 @@ unwritten_value c ws none = value_found c ws ∙ ap value_of none
 
 -- one more write, and one in the place of another
 pub value_added : (ws : List WriteEntry) (e : WriteEntry) (d : ℕ) → value_in ws e.cell ≡ None → value_in (ws ++ (e ∷ [])) d ≡ cond (eqb d e.cell) (Some e.value) (value_in ws d)
-value_added [] e d h = grind (arith, nat_tests)
+value_added [] e d h = grind (arith)
 value_added (f ∷ fs) e d h = grind (arith, nat_tests, value_added fs e d)
 
 pub value_replaced : (ws : List WriteEntry) (e : WriteEntry) (v d : ℕ) → value_in ws e.cell ≡ Some v → value_in (replaced e ws) d ≡ cond (eqb d e.cell) (Some e.value) (value_in ws d)
-value_replaced [] e v d h = grind (arith, nat_tests)
+value_replaced [] e v d h = grind (arith)
 value_replaced (f ∷ fs) e v d h = grind (arith, nat_tests, value_replaced fs e v d)
 
 -- an entry of a set with one more
 pub nth_added : {A : Type 0} (xs : List A) (y : A) (j : ℕ) (x : A) → nth (xs ++ (y ∷ [])) j ≡ Some x → ((nth xs j ≡ Some x) × (take j (xs ++ (y ∷ [])) ≡ take j xs)) ⊎ ((x ≡ y) × (take j (xs ++ (y ∷ [])) ≡ xs))
 nth_added [] y zero x h = inr (grind arith, refl)
-nth_added [] y (suc j) x h = absurd (grind (arith, nat_tests))
+nth_added [] y (suc j) x h = absurd (grind (arith))
 nth_added (z ∷ zs) y zero x h = inl (h, refl)
 nth_added (z ∷ zs) y (suc j) x h = ⊎_elim
-    (λ a. inl (let p = a.0 in grind (arith, nat_tests), ap (λ l. z ∷ l) a.1))
+    (λ a. inl (let p = a.0 in grind (arith), ap (λ l. z ∷ l) a.1))
     (λ a. inr (a.0, ap (λ l. z ∷ l) a.1))
-    (nth_added zs y j x (grind (arith, nat_tests)))
+    (nth_added zs y j x (grind (arith)))
 
 pub nth_front : {A : Type 0} (xs : List A) (y : A) (j : ℕ) (x : A) → nth xs j ≡ Some x → nth (xs ++ (y ∷ [])) j ≡ Some x
 nth_front [] y j x h = grind arith
@@ -48,17 +48,14 @@ nth_front (z ∷ zs) y j x h = grind (arith, nat_tests, nth_front zs y (j - 1) x
 
 pub nth_end : {A : Type 0} (xs : List A) (y : A) → nth (xs ++ (y ∷ [])) (length xs) ≡ Some y
 nth_end [] y = refl
-nth_end (z ∷ zs) y = let r = nth_end zs y in grind (arith, nat_tests)
+nth_end (z ∷ zs) y = let r = nth_end zs y in grind (arith)
 
 -- no cell comes twice
 pub apart_none : Apart []
 apart_none j e h = absurd (grind arith)
 
 pub apart_added : (ws : List WriteEntry) (e : WriteEntry) → Apart ws → value_in ws e.cell ≡ None → Apart (ws ++ (e ∷ []))
-apart_added ws e apart new j f h = ⊎_elim
-    (λ a. subst (λ l. value_in l f.cell ≡ None) (sym a.1) (apart j f a.0))
-    (λ a. subst (λ l. value_in l f.cell ≡ None) (sym a.1) (subst (λ (z : WriteEntry). value_in ws z.cell ≡ None) (sym a.0) new))
-    (nth_added ws e j f h)
+apart_added ws e apart new j f h = grind (arith, nat_tests, nth_added)
 
 replaced_nth : (ws : List WriteEntry) (e : WriteEntry) (j : ℕ) (f : WriteEntry) → nth (replaced e ws) j ≡ Some f → (o : WriteEntry) × (nth ws j ≡ Some o) × (o.cell ≡ f.cell)
 replaced_nth [] e j f h = absurd (grind arith)
@@ -68,7 +65,7 @@ replaced_nth (g ∷ gs) e j f h = by (eqb g.cell e.cell) refl (eqb j 0) refl (λ
     by true p true q ih = (g, grind arith, eqb-true g.cell e.cell p ∙ ap (λ (z : WriteEntry). z.cell) (some_same e f (grind arith)))
     by true p false q ih = (f, grind arith, refl)
     by false p true q ih = (g, grind arith, ap (λ (z : WriteEntry). z.cell) (some_same g f (grind arith)))
-    by false p false q ih = let r = ih (grind arith) in (r.0, let z = r.1 in grind arith, r.2)
+    by false p false q ih = grind (arith)
 
 replaced_part : (ws : List WriteEntry) (e : WriteEntry) (j d : ℕ) → value_in (take j ws) d ≡ None → value_in (take j (replaced e ws)) d ≡ None
 replaced_part [] e j d h = h
@@ -76,9 +73,7 @@ replaced_part (g ∷ gs) e zero d h = refl
 replaced_part (g ∷ gs) e (suc j) d h = grind (arith, nat_tests, replaced_part gs e j d)
 
 pub apart_replaced : (ws : List WriteEntry) (e : WriteEntry) → Apart ws → Apart (replaced e ws)
-apart_replaced ws e apart j f h =
-    let r = replaced_nth ws e j f h in
-    replaced_part ws e j f.cell (subst (λ c. value_in (take j ws) c ≡ None) r.2 (apart j r.0 r.1))
+apart_replaced ws e apart j f h = grind (arith, nat_tests, replaced_nth, replaced_part)
 
 -- begin
 pub local_none : Local [] [] []
@@ -88,7 +83,7 @@ local_none = record { fits = λ a h. tt; last = λ c. refl }
 pub local_added : (ops : List Op) (rs : List ReadEntry) (ws : List WriteEntry) (e : WriteEntry) → find_write e.cell ws ≡ None → Local ops rs ws → Local (writes e.cell e.value ∷ ops) rs (ws ++ (e ∷ []))
 local_added ops rs ws e new l = record {
   fits = l.fits;
-  last = λ d. ap (λ o. cond (eqb d e.cell) (Some e.value) o) (l.last d) ∙ sym (value_added ws e d (unwritten_value e.cell ws new));
+  last = grind (arith, nat_tests, value_added, unwritten_value);
 }
 
 pub local_replaced : (ops : List Op) (rs : List ReadEntry) (ws : List WriteEntry) (e o : WriteEntry) → find_write e.cell ws ≡ Some o → Local ops rs ws → Local (writes e.cell e.value ∷ ops) rs (replaced e ws)
@@ -100,7 +95,7 @@ local_replaced ops rs ws e o old l = record {
 -- a read of what the pass wrote, of what it read, and a new one
 pub local_own : (ops : List Op) (rs : List ReadEntry) (ws : List WriteEntry) (c : ℕ) (e : WriteEntry) → find_write c ws ≡ Some e → Local ops rs ws → Local (reads c e.value ∷ ops) rs ws
 local_own ops rs ws c e own l = record {
-  fits = λ a h. (sym (ops_leave ops a c ∙ ap (λ o. over o (a c)) (l.last c ∙ value_found c ws ∙ ap value_of own)), l.fits a h);
+  fits = grind (arith, nat_tests, ops_leave, value_found);
   last = l.last;
 }
 
@@ -108,15 +103,15 @@ find_nth : (c : ℕ) (rs : List ReadEntry) (g : ReadEntry) → find_read c rs �
 find_nth c [] g h = absurd (grind arith)
 find_nth c (r ∷ rs) g h = ⊎_elim
     (λ (b : eqb r.cell c ≡ true). (0, grind arith, ap (λ (z : ReadEntry). z.cell) (some_same g r (grind arith)) ∙ eqb-true r.cell c b))
-    (λ (b : eqb r.cell c ≡ false). let f = find_nth c rs g (grind arith) in (suc f.0, let z = f.1 in grind (arith, nat_tests), f.2))
+    (λ (b : eqb r.cell c ≡ false). let f = find_nth c rs g (grind arith) in (suc f.0, let z = f.1 in grind (arith), f.2))
     (cases_Bool (eqb r.cell c))
 
 unwritten : (ops : List Op) (rs : List ReadEntry) (ws : List WriteEntry) (c : ℕ) (a : ℕ → ℕ) → find_write c ws ≡ None → Local ops rs ws → after_ops ops a c ≡ a c
-unwritten ops rs ws c a none l = ops_leave ops a c ∙ ap (λ o. over o (a c)) (l.last c ∙ unwritten_value c ws none)
+unwritten ops rs ws c a none l = grind (arith, nat_tests, ops_leave, unwritten_value)
 
 pub local_known : (ops : List Op) (rs : List ReadEntry) (ws : List WriteEntry) (c : ℕ) (g : ReadEntry) → find_write c ws ≡ None → find_read c rs ≡ Some g → Local ops rs ws → Local (reads c g.value ∷ ops) rs ws
 local_known ops rs ws c g none known l = let f = find_nth c rs g known in record {
-  fits = λ a h. (h f.0 g f.1 ∙ ap a f.2 ∙ sym (unwritten ops rs ws c a none l), l.fits a h);
+  fits = grind (arith, nat_tests, unwritten);
   last = l.last;
 }
 

@@ -1,6 +1,5 @@
 -- A read of a look, and collect: neither touches a pass.
-use Rattle.std.proofs.Common.{◌≡◌, ℕ, ◌<◌, true, cond, ◌&&◌, eqb, ltb, List, Some, None, sym, refl, ap, subst, inl, ⊎_elim, arith}
-use Rattle.std.proofs.lemmas.Bool.{cases_eq}
+use Rattle.std.proofs.Common.{◌≡◌, ℕ, ◌<◌, true, cond, ◌&&◌, eqb, ltb, List, Some, None, sym, refl, subst, inl, arith}
 use Rattle.std.proofs.lemmas.Bool.Decides.{nat_tests}
 use Rattle.words.specs.Outcome.{accepted}
 use Rattle.words.specs.declared.status.Status.TheVariants.{Aborted}
@@ -18,7 +17,7 @@ use Rattle.law.proofs.Searches.{Finds, Uncommitted}
 use Rattle.law.proofs.Cross.{found_after}
 use Rattle.law.proofs.Cuts.{with_versions, collects}
 use Rattle.law.proofs.Lines.{line_look}
-use Rattle.law.proofs.Good.{state, Does, Good, AllGlanced, puts, leaves, keeps}
+use Rattle.law.proofs.Good.{state, Good, AllGlanced, puts, leaves, keeps}
 use Rattle.law.proofs.Quiet.{mine, doing_in}
 use Rattle.law.proofs.Found.{visible_found, newest_below_found, found_committed}
 use Rattle.law.proofs.Records.{glanced_same, recorded_versions}
@@ -36,7 +35,7 @@ module _ (m : Model) (h : History) (good : Good m h) where
     last = leaves h.last w (last_stamp m w) (good.last w);
     later = omega arith;
     spent = (good.clocks w).1;
-    does = subst (λ g. Does g (last_stamp m w) good.pass (with_op (reads c v.value) (h.doing w))) (sym was) (ap (with_op (reads c v.value)) doing);
+    does = grind (arith);
     same = λ P e. refl;
     own = λ P e r. mine m h good w within P e r;
     elsewhere = λ u n. refl;
@@ -93,10 +92,7 @@ module _ (m : Model) (h : History) (good : Good m h) where
       ls = put m.lists c (kept v.write (m.lists c))
 
       cut : (d u : ℕ) → under u (ls d) ≡ cond (eqb c d && ltb u v.write) None (under u (m.lists d))
-      cut d u = ⊎_elim
-          (λ (q : d ≡ c). let z = under_kept u v.write (m.lists c) in grind (arith, nat_tests))
-          (λ (q : d ≡ c → ⊥). grind (arith, nat_tests))
-          (cases_eq d c)
+      cut d u = grind (arith, nat_tests, under_kept)
 
       back : (d u : ℕ) (y : Version) → under u (ls d) ≡ Some y → under u (m.lists d) ≡ Some y
       back d u y e = let z = cut d u in grind (arith, nat_tests)

@@ -1,8 +1,8 @@
 -- What no call of a good map is answered: WAIT to a look or to the earliest sealed pass, STAMP TAKEN, NO VERSION.
-use Rattle.std.proofs.Common.{◌≡◌, ℕ, ◌<◌, ◌≤◌, Bool, true, false, cond, eqb, ltb, ◌⊎◌, List, is_some, Some, sym, refl, ap, ◌∙◌, subst, inl, inr, ⊎_elim, arith}
+use Rattle.std.proofs.Common.{◌≡◌, ℕ, ◌<◌, ◌≤◌, Bool, true, false, cond, ◌⊎◌, List, is_some, Some, sym, refl, ap, ◌∙◌, subst, ⊎_elim, arith}
 use Rattle.std.proofs.lemmas.Bool.Decides.{nat_tests}
 use Rattle.words.specs.Outcome.{Outcome, accepted, refused, refuse}
-use Rattle.words.specs.declared.refusal.Refusal.TheVariants.{NoCell, StampTaken, NoPlace}
+use Rattle.words.specs.declared.refusal.Refusal.TheVariants.{StampTaken, NoPlace}
 use Rattle.words.specs.declared.status.Status.TheVariants.{Pending}
 use Rattle.words.specs.declared.version.Version.{Version}
 use Rattle.tables.specs.Versions.{top, holds}
@@ -26,7 +26,7 @@ use Rattle.law.proofs.Cross.{cover, never_lacks, pending_runs}
 use Rattle.law.proofs.Lines.{line_greatest, line_lower, line_look}
 use Rattle.law.proofs.Good.{running, state, View, Does, Good}
 use Rattle.law.proofs.Quiet.{doing_in}
-use Rattle.law.proofs.Turns.{Turn, turn}
+use Rattle.law.proofs.Turns.{turn}
 use Rattle.law.proofs.Found.{visible_refused, newest_below_refused, newest_searched}
 
 module _ (m : Model) (h : History) (good : Good m h) where
@@ -34,20 +34,14 @@ module _ (m : Model) (h : History) (good : Good m h) where
   s = state m good.pass
 
   line_positive : 0 < keep_line m
-  line_positive = line_greatest m good.some 1 (λ w l. let c = (good.clocks w).0 in omega arith) (λ w f l e. (good.looks w f e).0)
+  line_positive = grind (arith, nat_tests, line_greatest)
 
   pub line_small : keep_line m ≤ top
-  line_small = let a = line_lower m good.some 0 good.some in let b = (good.clocks 0).1 in omega arith
+  line_small = grind (arith)
 
   -- what a worker is doing tells its stage
   look_stage : (w f : ℕ) → h.doing w ≡ in_look f → (m.worker w).stage ≡ looking f
-  look_stage w f e = by (m.worker w).stage refl (good.does w)
-    where
-      by : (g : Stage) → (m.worker w).stage ≡ g → Does g (last_stamp m w) good.pass (h.doing w) → (m.worker w).stage ≡ looking f
-      by idle q d = absurd (let z : ◌≡◌ {A = ℕ} 0 1 = cc in omega arith)
-      by (open' rs ws) q d = absurd (let i = d.is in let z : ◌≡◌ {A = ℕ} 0 1 = cc in omega arith)
-      by (sealed rs ws k) q d = absurd (let i = d.is in let z : ◌≡◌ {A = ℕ} 0 1 = cc in omega arith)
-      by (looking g) q d = q ∙ ap looking (let z : g ≡ f = cc in z)
+  look_stage w f e = grind (arith)
 
   -- a worker whose pass is sealed
   pub record IsSealed (w : ℕ) (p : Pass) : Type 0 where
@@ -58,13 +52,7 @@ module _ (m : Model) (h : History) (good : Good m h) where
     pub stamp : p.stamp ≡ last_stamp m w
 
   sealed_stage : (w : ℕ) (p : Pass) → h.doing w ≡ in_pass p true → IsSealed w p
-  sealed_stage w p e = by (m.worker w).stage refl (good.does w)
-    where
-      by : (g : Stage) → (m.worker w).stage ≡ g → Does g (last_stamp m w) good.pass (h.doing w) → IsSealed w p
-      by idle q d = absurd (let z : ◌≡◌ {A = ℕ} 0 1 = cc in omega arith)
-      by (open' rs ws) q d = absurd (let i = d.is in let z : true ≡ false = cc in let y : ◌≡◌ {A = ℕ} 0 1 = cc in omega arith)
-      by (sealed rs ws k) q d = record { reads = rs; writes = ws; k = k; stage = q; stamp = let i = d.is in let z : p ≡ record { stamp = last_stamp m w; ops = d.ops } = cc in ap (λ (p : Pass). p.stamp) z }
-      by (looking f) q d = absurd (let z : ◌≡◌ {A = ℕ} 0 1 = cc in omega arith)
+  sealed_stage w p e = grind (arith)
 
   -- a pending version's stamp is that of a pass then sealed
   pub pending_sealed : (c t : ℕ) (x : Version) → under t (m.lists c) ≡ Some x → x.status ≡ Pending → (w : ℕ) × ((p : Pass) × (h.doing w ≡ in_pass p true) × (p.stamp ≡ t) × (w < m.workers) × (t ≡ last_stamp m w))
@@ -76,34 +64,26 @@ module _ (m : Model) (h : History) (good : Good m h) where
       by : (w : ℕ) → w < m.workers → t ≡ last_stamp m w → (P : Progress) → 0 < P.k → (g : Stage) → View g P → Does g (last_stamp m w) good.pass (h.doing w)
           → (w : ℕ) × ((p : Pass) × (h.doing w ≡ in_pass p true) × (p.stamp ≡ t) × (w < m.workers) × (t ≡ last_stamp m w))
       by w l is P pos idle v d = absurd v
-      by w l is P pos (open' rs ws) v d = absurd (let z = ap (λ (P : Progress). P.k) v in omega arith)
-      by w l is P pos (sealed rs ws k) v d = (w, (record { stamp = last_stamp m w; ops = d.ops }, d.is, sym is, l, is))
+      by w l is P pos (open' rs ws) v d = grind (arith)
+      by w l is P pos (sealed rs ws k) v d = grind (arith)
       by w l is P pos (looking f) v d = absurd v
 
   -- some version of a cell that is there is committed below every stamp that the keep line is not above
   pub some_committed : (c f : ℕ) → c < m.cells → keep_line m ≤ f → Lacks Uncommitted f (λ u. under u (m.lists c)) → ⊥
-  some_committed c f in' le none =
-      let a = cover s (keep_line m) good.inv c 0 0 f (grind (arith, nat_tests)) (let p = line_positive in omega arith) le in
-      none a.0 a.1.0 a.1.1 a.3 a.1.2
+  some_committed c f in' le none = let a = cover s (keep_line m) good.inv c 0 0 f (grind (arith, nat_tests)) (let p = line_positive in omega arith) le in grind (arith, nat_tests)
 
   -- a stamp that a pass is to install is not there yet
   not_taken : (w : ℕ) (rs : List ReadEntry) (ws : List WriteEntry) (k : ℕ) (e : WriteEntry) → w < m.workers → (m.worker w).stage ≡ sealed rs ws k → next_step rs ws k ≡ to_install e → holds (last_stamp m w) (m.lists e.cell) ≡ false
   not_taken w rs ws k e l was is =
       let p = doing_in m h good w l (sealed rs ws k) was in
-      let n = good.inv.apart (last_stamp m w) (running rs ws k) p.runs k e (subst (Turn rs ws k) is (turn rs ws k)) in
+      let n = good.inv.apart (last_stamp m w) (running rs ws k) p.runs k e (turn rs ws k (to_install e) is) in
       holds_under (last_stamp m w) (m.lists e.cell) ∙ ap is_some (good.inv.agrees.missing (last_stamp m w) (running rs ws k) e.cell (p.runs, refl) n)
 
   abbrev insert_tests : Bool → Bool → Outcome ℕ
   insert_tests taken none = cond taken (refuse StampTaken) (cond none (refuse NoPlace) (accepted 0))
 
   insert_plain : (free : ℕ → ℕ) (c t n d : ℕ) → insert_answer (table_of free m) c t ≡ refused n d → ((n ≡ 7) × (holds t (m.lists c) ≡ true)) ⊎ ((n ≡ 2) ⊎ (n ≡ 8))
-  insert_plain free c t n d e = by (ltb c m.cells) (holds t (m.lists c)) refl (eqb (free c) 0) e
-    where
-      by : (a b : Bool) → holds t (m.lists c) ≡ b → (z : Bool) → cond a (insert_tests b z) (refuse NoCell) ≡ refused n d → ((n ≡ 7) × (holds t (m.lists c) ≡ true)) ⊎ ((n ≡ 2) ⊎ (n ≡ 8))
-      by true true q z e = inl (let y : n ≡ 7 = cc in y, q)
-      by true false q true e = inr (inr (let y : n ≡ 8 = cc in y))
-      by true false q false e = absurd (let y : ◌≡◌ {A = ℕ} 0 1 = cc in omega arith)
-      by false b q z e = inr (inl (let y : n ≡ 2 = cc in y))
+  insert_plain free c t n d e = grind (arith)
 
   -- the stamp below which a worker searches in a stage
   abbrev Bound : Stage → ℕ → ℕ → Type 0
@@ -139,10 +119,10 @@ module _ (m : Model) (h : History) (good : Good m h) where
     waits w d call by e = from (explained free m call 6 d e).1
       where
         from : Why free m call 6 d → Waiting w d
-        from (by_itself p) = absurd (let z : ◌≡◌ {A = ℕ} 0 1 = cc in omega arith)
+        from (by_itself p) = absurd cc
         from (at_read v c rs ws is l was r) = subst (λ w. Waiting w d) (subst (By w) is by) (meets v c (last_stamp m v) d (in_stage v (last_stamp m v) (open' rs ws) was refl) r)
         from (at_look v c f is l was r) = subst (λ w. Waiting w d) (subst (By w) is by) (meets v c f d (in_stage v f (looking f) was refl) r)
-        from (at_install v rs ws k x l was is r) = absurd (⊎_elim (λ a. let z = a.0 in omega arith) (λ a. ⊎_elim (λ (z : 6 ≡ 2). omega arith) (λ (z : 6 ≡ 8). omega arith) a) (insert_plain free x.cell (last_stamp m v) 6 d r))
+        from (at_install v rs ws k x l was is r) = absurd (let z = insert_plain free x.cell (last_stamp m v) 6 d r in grind arith)
         from (at_check v rs ws k c is l was r) = subst (λ w. Waiting w d) (subst (By w) is by) (meets v c (last_stamp m v) d (in_stage v (last_stamp m v) (sealed rs ws k) was refl) r)
         from (at_show c is r) = absurd (subst (By w) is by)
         from (at_collect c is r) = absurd (subst (By w) is by)
@@ -168,16 +148,16 @@ module _ (m : Model) (h : History) (good : Good m h) where
     -- a search below a stamp that the keep line is not above is never refused but with WAIT
     finds_some : (f c n d : ℕ) → keep_line m ≤ f → (n ≡ 7) ⊎ (n ≡ 9) → search (visible f) (table_of free m) c ≡ refused n d → ⊥
     finds_some f c n d le odd e = ⊎_elim
-        (λ a. let z = a.1 in ⊎_elim (λ (y : n ≡ 7). omega arith) (λ (y : n ≡ 9). omega arith) odd)
+        (λ a. grind arith)
         (λ a. ⊎_elim
-        (λ b. let z = b.0 in ⊎_elim (λ (y : n ≡ 7). omega arith) (λ (y : n ≡ 9). omega arith) odd)
+        (λ b. grind arith)
         (λ b. never_lacks s (keep_line m) good.inv c f a.0 (let p = line_positive in omega arith) le b.1)
         a.1)
         (visible_refused m h good f free c n d e)
 
     finds_newest : (f c n d : ℕ) → keep_line m ≤ f → (n ≡ 7) ⊎ (n ≡ 9) → search (newest_below f) (table_of free m) c ≡ refused n d → ⊥
     finds_newest f c n d le odd e = ⊎_elim
-        (λ a. let z = a.1 in ⊎_elim (λ (y : n ≡ 7). omega arith) (λ (y : n ≡ 9). omega arith) odd)
+        (λ a. grind arith)
         (λ a. some_committed c f a.0 le a.2)
         (newest_below_refused m h good f free c n d e)
 
@@ -186,13 +166,10 @@ module _ (m : Model) (h : History) (good : Good m h) where
     never_odd n d call odd e = from (explained free m call n d e).1
       where
         from : Why free m call n d → ⊥
-        from (by_itself p) = ⊎_elim (λ (z : n ≡ 7). grind (arith, nat_tests)) (λ (z : n ≡ 9). grind (arith, nat_tests)) odd
+        from (by_itself p) = grind (arith)
         from (at_read w c rs ws is l was r) = finds_some (last_stamp m w) c n d (line_lower m good.some w l) odd r
         from (at_look w c f is l was r) = finds_some f c n d (line_look m good.some w f l was) odd r
-        from (at_install w rs ws k x l was is r) = ⊎_elim
-            (λ a. let z = not_taken w rs ws k x l was is in let y = a.1 in let v : ◌≡◌ {A = ℕ} 0 1 = cc in omega arith)
-            (λ a. ⊎_elim (λ (z : n ≡ 2). ⊎_elim (λ (y : n ≡ 7). omega arith) (λ (y : n ≡ 9). omega arith) odd) (λ (z : n ≡ 8). ⊎_elim (λ (y : n ≡ 7). omega arith) (λ (y : n ≡ 9). omega arith) odd) a)
-            (insert_plain free x.cell (last_stamp m w) n d r)
+        from (at_install w rs ws k x l was is r) = grind (arith, nat_tests, not_taken)
         from (at_check w rs ws k c is l was r) = finds_some (last_stamp m w) c n d (line_lower m good.some w l) odd r
         from (at_show c is r) = finds_newest top c n d line_small odd (sym (newest_searched m h good free c) ∙ r)
         from (at_collect c is r) = finds_newest (keep_line m) c n d (omega arith) odd r

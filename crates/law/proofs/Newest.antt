@@ -1,6 +1,5 @@
 -- What the plain array holds after passes is, of each cell, the newest write.
-use Rattle.std.proofs.Common.{◌≡◌, ℕ, ◌<◌, ◌≤◌, Bool, true, cond, ◌&&◌, eqb, ltb, List, [], ◌∷◌, Some, None, Option, sym, refl, ◌∙◌, subst, ⊎_elim, arith}
-use Rattle.std.proofs.lemmas.Bool.{cases_eq}
+use Rattle.std.proofs.Common.{◌≡◌, ℕ, ◌<◌, ◌≤◌, Bool, true, cond, ◌&&◌, eqb, ltb, List, [], ◌∷◌, Some, None, Option, refl, arith}
 use Rattle.std.proofs.lemmas.Bool.Decides.{nat_tests}
 use Rattle.rules.specs.Sets.{find}
 use Rattle.law.specs.Plain.{Op, reads, writes, Pass, after_ops, after, by_stamp, placed, below}
@@ -35,7 +34,7 @@ on_placed t p (q ∷ qs) = grind (arith, nat_tests, on_placed t p qs)
 
 pub on_sorted : (t : ℕ) (ps : List Pass) → on t (by_stamp ps) ≡ on t ps
 on_sorted t [] = refl
-on_sorted t (p ∷ ps) = let a = on_placed t p (by_stamp ps) in let b = on_sorted t ps in grind (arith, nat_tests)
+on_sorted t (p ∷ ps) = let a = on_placed t p (by_stamp ps) in let b = on_sorted t ps in grind (arith)
 
 pub on_below : (t s : ℕ) (ps : List Pass) → on t (below s ps) ≡ cond (ltb t s) (on t ps) None
 on_below t s [] = grind arith
@@ -52,14 +51,14 @@ on_strict n t (q ∷ qs) p h e = grind (arith, nat_tests, on_strict q.stamp t qs
 
 pub strict_wider : (m n : ℕ) (ps : List Pass) → m ≤ n → strict m ps ≡ true → strict n ps ≡ true
 strict_wider m n [] le h = refl
-strict_wider m n (p ∷ ps) le h = grind (arith, nat_tests)
+strict_wider m n (p ∷ ps) le h = grind (arith)
 
 pub strict_below : (n s : ℕ) (ps : List Pass) → strict n ps ≡ true → strict n (below s ps) ≡ true
 strict_below n s [] h = refl
 strict_below n s (p ∷ ps) h = grind (arith, nat_tests, strict_below p.stamp s ps, strict_wider p.stamp n (below s ps))
 
 pub strict_placed : (n : ℕ) (p : Pass) (qs : List Pass) → p.stamp < n → on p.stamp qs ≡ None → strict n qs ≡ true → strict n (placed p qs) ≡ true
-strict_placed n p [] lt new h = grind (arith, nat_tests)
+strict_placed n p [] lt new h = grind (arith)
 strict_placed n p (q ∷ qs) lt new h = grind (arith, nat_tests, strict_placed q.stamp p qs)
 
 -- what the pass stamped t wrote to a cell
@@ -72,35 +71,27 @@ pub array_none : (n : ℕ) (ps : List Pass) (c : ℕ) → strict n ps ≡ true �
 array_none n [] c h none = refl
 array_none n (p ∷ ps) c h none =
     let here : last_write p.ops c ≡ None = let z = none p.stamp in grind (arith, nat_tests) in
-    let rest = array_none p.stamp ps c (grind (arith, nat_tests)) (λ t. earlier t (on t ps) refl) in
+    let rest = array_none p.stamp ps c (grind (arith, nat_tests)) earlier in
     let e = ops_leave p.ops (after ps) c in grind arith
   where
-    earlier : (t : ℕ) (o : Option Pass) → on t ps ≡ o → wrote o c ≡ None
-    earlier t None e = refl
-    earlier t (Some q) e = let z = none t in let y = on_strict p.stamp t ps q (grind (arith, nat_tests)) e in grind (arith, nat_tests)
+    earlier : (t : ℕ) → wrote (on t ps) c ≡ None
+    earlier t = let z = none t in grind (arith, nat_tests, on_strict)
 
 pub array_newest : (n : ℕ) (ps : List Pass) (c w v : ℕ) → strict n ps ≡ true → wrote (on w ps) c ≡ Some v → ((t u : ℕ) → wrote (on t ps) c ≡ Some u → t ≤ w) → after ps c ≡ v
 array_newest n [] c w v h e new = grind arith
-array_newest n (p ∷ ps) c w v h e new = by (last_write p.ops c) refl (ops_leave p.ops (after ps) c) (λ e' new'. array_newest p.stamp ps c w v (grind (arith, nat_tests)) e' new')
+array_newest n (p ∷ ps) c w v h e new =
+    let leave = ops_leave p.ops (after ps) c in
+    let older = λ (q : last_write p.ops c ≡ None). array_newest p.stamp ps c w v rest (there q) (λ t u r. earlier t u r) in
+    grind (arith, older, newer)
   where
     rest : strict p.stamp ps ≡ true
-    rest = grind (arith, nat_tests)
+    rest = grind (arith)
 
-    by : (o : Option ℕ) → last_write p.ops c ≡ o → after_ops p.ops (after ps) c ≡ over (last_write p.ops c) (after ps c)
-        → (wrote (on w ps) c ≡ Some v → ((t u : ℕ) → wrote (on t ps) c ≡ Some u → t ≤ w) → after ps c ≡ v) → after_ops p.ops (after ps) c ≡ v
-    by None q leave ih = leave ∙ subst (λ o. over o (after ps c) ≡ v) (sym q) (ih (⊎_elim
-        (λ (s : p.stamp ≡ w). absurd (grind (arith, nat_tests)))
-        (λ (s : p.stamp ≡ w → ⊥). grind (arith, nat_tests))
-        (cases_eq p.stamp w)) (λ t u r. earlier t u r (on t ps) refl))
-      where
-        earlier : (t u : ℕ) → wrote (on t ps) c ≡ Some u → (o : Option Pass) → on t ps ≡ o → t ≤ w
-        earlier t u r None s = absurd (grind arith)
-        earlier t u r (Some q') s = let y = on_strict p.stamp t ps q' rest s in new t u (grind (arith, nat_tests))
-    by (Some x) q leave ih = leave ∙ subst (λ o. over o (after ps c) ≡ v) (sym q) (same (on w (p ∷ ps)) refl)
-      where
-        same : (o : Option Pass) → on w (p ∷ ps) ≡ o → x ≡ v
-        same None s = absurd (grind arith)
-        same (Some r) s = ⊎_elim
-            (λ (z : p.stamp ≡ w). grind (arith, nat_tests))
-            (λ (z : p.stamp ≡ w → ⊥). absurd (let a = new p.stamp x (grind (arith, nat_tests)) in let b = on_strict p.stamp w ps r rest (grind (arith, nat_tests)) in omega arith))
-            (cases_eq p.stamp w)
+    there : last_write p.ops c ≡ None → wrote (on w ps) c ≡ Some v
+    there q = grind (arith, nat_tests)
+
+    earlier : (t u : ℕ) → wrote (on t ps) c ≡ Some u → t ≤ w
+    earlier t u r = let z = new t u in grind (arith, nat_tests, on_strict)
+
+    newer : (x : ℕ) → last_write p.ops c ≡ Some x → x ≡ v
+    newer x q = let z = new p.stamp x in grind (arith, nat_tests, on_strict)

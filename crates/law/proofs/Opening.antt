@@ -1,5 +1,6 @@
 -- begin, write and a read of the table: a pass is open, before the call or after it.
 use Rattle.std.proofs.Common.{◌≡◌, ℕ, ◌<◌, ◌≤◌, false, List, [], ◌∷◌, ◌++◌, Some, None, Option, sym, refl, ap, ◌∙◌, subst, inl, ⊎_elim, arith}
+use Rattle.std.proofs.lemmas.Bool.Decides.{nat_tests}
 use Rattle.words.specs.Outcome.{accepted}
 use Rattle.words.specs.declared.version.Version.{Version}
 use Rattle.tables.specs.Table.{put}
@@ -14,14 +15,15 @@ use Rattle.law.specs.History.{Doing, in_pass, History, now_doing, stamped, with_
 use Rattle.law.proofs.Under.{under}
 use Rattle.law.proofs.State.{Progress, Apart, committed}
 use Rattle.law.proofs.Prefixes.{some_same}
-use Rattle.law.proofs.Moves.{put_here, put_there, one_pass, committed_moved}
+use Rattle.tables.proofs.Lengths.{put_here, put_other}
+use Rattle.law.proofs.Moves.{one_pass}
 use Rattle.law.proofs.Opens.{opened}
 use Rattle.law.proofs.Serial.{Local}
 use Rattle.law.proofs.Locals.{nth_added, apart_none, apart_added, apart_replaced, local_none, local_added, local_replaced, local_read, unwritten_value}
 use Rattle.law.proofs.Lines.{line_lower}
 use Rattle.law.proofs.Good.{running, state, View, InPass, Does, Known, Good, Becomes, puts, leaves, keeps}
-use Rattle.law.proofs.Quiet.{with_doing, fresh, doing_in, view_in}
-use Rattle.law.proofs.Records.{glanced_same, recorded_moved}
+use Rattle.law.proofs.Quiet.{with_doing, doing_in, view_in}
+use Rattle.law.proofs.Records.{glanced_same}
 use Rattle.law.proofs.Found.{visible_found, found_committed}
 
 module _ (m : Model) (h : History) (good : Good m h) (w : ℕ) (within : w < m.workers) where
@@ -48,14 +50,14 @@ module _ (m : Model) (h : History) (good : Good m h) (w : ℕ) (within : w < m.w
         does = subst (λ g. Does g t (put good.pass t (Some P)) d) (sym shape) (record { ops = ops; is = is; runs = put_here good.pass t (Some P); local = local });
         same = same;
         own = λ Q e r. subst (λ g. View g Q) (sym shape) (some_same Q P (sym e ∙ put_here good.pass t (Some P)));
-        elsewhere = λ u n. put_there good.pass t (Some P) u n;
-        looks = λ f e. absurd (let z : ◌≡◌ {A = ℕ} 0 1 = cc in omega arith);
+        elsewhere = λ u n. put_other good.pass t (Some P) u n;
+        looks = λ f e. absurd cc;
         inv = opened (state m good.pass) (keep_line m) good.inv t P pos low refl refl before unseen apart sources;
         falling = good.falling;
         inside = good.inside;
         versions = λ c u y e. inl (y, e);
-        recorded = recorded_moved (state m good.pass) t P (λ c u. under u (m.lists c)) pos refl (λ O e. (before O e).0) h.passes good.recorded;
-        glances = glanced_same m (state m good.pass) (state m (put good.pass t (Some P))) w within (λ c u _. committed_moved (state m good.pass) t P (λ c u. under u (m.lists c)) pos refl (λ O e. (before O e).0) c u) h.glances good.glances;
+        recorded = grind (arith);
+        glances = grind (arith, nat_tests, glanced_same);
       })
     where
       t : ℕ
@@ -90,11 +92,11 @@ module _ (m : Model) (h : History) (good : Good m h) (w : ℕ) (within : w < m.w
       d = in_pass (record { stamp = t; ops = [] }) false
 
       new : Known m t → ⊥
-      new k = fresh m h good w within (adjusted (m.worker w) units) (omega arith) k
+      new k = grind (arith)
 
       unseen : (c : ℕ) (o : Option Version) → under t (m.lists c) ≡ o → o ≡ None
       unseen c None e = refl
-      unseen c (Some y) e = absurd (⊎_elim (λ (z : t ≡ 0). let a = (good.clocks w).0 in omega arith) new (good.seen c t y e))
+      unseen c (Some y) e = grind (arith)
 
   -- an open pass goes on
   module _ (rs : List ReadEntry) (ws : List WriteEntry) (was : (m.worker w).stage ≡ open' rs ws) where

@@ -1,6 +1,7 @@
 -- Calls that change one worker, and neither lists nor passes: pulse, sync, seal, look and close, and
 -- reads of what a pass knows.
-use Rattle.std.proofs.Common.{◌≡◌, ℕ, ◌<◌, ◌≤◌, false, ◌⊎◌, List, ◌∷◌, Some, sym, refl, ap, ◌∙◌, subst, inl, inr, arith}
+use Rattle.std.proofs.Common.{◌≡◌, ℕ, ◌<◌, ◌≤◌, false, ◌⊎◌, List, ◌∷◌, Some, refl, ap, subst, inl, inr, arith}
+use Rattle.std.proofs.lemmas.Bool.Decides.{nat_tests}
 use Rattle.rules.specs.declared.entry.ReadEntry.{ReadEntry}
 use Rattle.rules.specs.declared.entry.WriteEntry.{WriteEntry}
 use Rattle.rules.specs.Model.{Stage, idle, open', sealed, looking, Worker, Model, with_worker, at_stage}
@@ -25,21 +26,15 @@ module _ (m : Model) (h : History) (good : Good m h) (w : ℕ) (within : w < m.w
 
   -- a running pass under the worker's timestamp is its own
   pub mine : (P : Progress) → good.pass (last_stamp m w) ≡ Some P → P.ended ≡ false → View (m.worker w).stage P
-  mine P e r =
-      let o = good.whose (last_stamp m w) P e r in
-      let z = apart_stamps (m.worker w).last (m.worker o.worker).last w o.worker (small w within) (small o.worker o.within) o.is in
-      subst (λ v. View (m.worker v).stage P) (sym z.1) o.view
+  mine P e r = let o = good.whose (last_stamp m w) P e r in let z = apart_stamps (m.worker w).last (m.worker o.worker).last w o.worker (small w within) (small o.worker o.within) o.is in grind (arith, nat_tests)
 
   -- a later clock gives a timestamp that nobody has got
   pub fresh : (a : ℕ) → (m.worker w).last < a → Known m (timestamp a w) → ⊥
-  fresh a lt k =
-      let z = apart_stamps a k.clock w k.worker (small w within) (small k.worker k.within) k.is in
-      let p = subst (λ v. k.clock ≤ (m.worker v).last) (sym z.1) k.past in
-      let q = z.0 in omega arith
+  fresh a lt k = grind (arith)
 
   -- what a worker in a known stage is doing
   pub doing_in : (g : Stage) → (m.worker w).stage ≡ g → Does g (last_stamp m w) good.pass (h.doing w)
-  doing_in g e = subst (λ g. Does g (last_stamp m w) good.pass (h.doing w)) e (good.does w)
+  doing_in g e = grind (arith)
 
   pub view_in : (g : Stage) → (m.worker w).stage ≡ g → (P : Progress) → View (m.worker w).stage P → View g P
   view_in g e P v = subst (λ g. View g P) e v
@@ -80,13 +75,7 @@ module _ (m : Model) (h : History) (good : Good m h) (w : ℕ) (within : w < m.w
       → ((P : Progress) → View (m.worker w).stage P → View x.stage P)
       → ((f : ℕ) → x.stage ≡ looking f → ((m.worker w).stage ≡ looking f) ⊎ ((keep_line m ≤ f) × (0 < f) × ((v : ℕ) → v < m.workers → f ≤ last_stamp m v)))
       → Good (with_workers m worker) (with_doing h doing h.last)
-  staying worker doing x d to_worker to_doing same does views looks = quiet worker doing h.last x d to_worker to_doing
-      (leaves h.last w (timestamp x.last w) (good.last w ∙ ap (λ a. timestamp a w) (sym same)))
-      (omega arith) (let c = (good.clocks w).1 in omega arith)
-      (subst (λ a. Does x.stage (timestamp a w) good.pass d) (sym same) does)
-      (λ P _. sym same)
-      (λ P e r. views P (mine P (subst (λ a. good.pass (timestamp a w) ≡ Some P) same e) r))
-      looks
+  staying worker doing x d to_worker to_doing same does views looks = grind (arith, nat_tests, quiet, mine)
 
   pub pulses : (units : ℕ) → (m.worker w).stage ≡ idle → adjusted (m.worker w) units ≤ last_clock
       → Good (with_worker m w (ticked (m.worker w) units idle)) (stamped h w (timestamp (adjusted (m.worker w) units) w))
@@ -97,12 +86,10 @@ module _ (m : Model) (h : History) (good : Good m h) (w : ℕ) (within : w < m.w
       (omega arith) spent (doing_in idle was)
       (λ P v. absurd (view_in idle was P v))
       (λ P e r. absurd (fresh (adjusted (m.worker w) units) (omega arith) (good.known t P e)))
-      (λ f e. absurd (let z : ◌≡◌ {A = ℕ} 0 1 = cc in omega arith))
+      (λ f e. absurd cc)
 
   pub syncs : (clock : ℕ) → Good (with_worker m w (record { clock = clock; boost = (m.worker w).boost; last = (m.worker w).last; stage = (m.worker w).stage })) h
-  syncs clock =
-      let x : Worker = record { clock = clock; boost = (m.worker w).boost; last = (m.worker w).last; stage = (m.worker w).stage } in
-      staying _ h.doing x (h.doing w) (puts m.worker w x) (leaves h.doing w (h.doing w) refl) refl (good.does w) (λ P v. v) (λ f e. inl e)
+  syncs clock = grind (arith, nat_tests, staying)
 
   pub seals : (rs : List ReadEntry) (ws : List WriteEntry) → (m.worker w).stage ≡ open' rs ws
       → Good (with_worker m w (at_stage (m.worker w) (sealed rs ws 0))) (now_doing h w (sealing (h.doing w)))
@@ -112,7 +99,7 @@ module _ (m : Model) (h : History) (good : Good m h) (w : ℕ) (within : w < m.w
       staying _ _ x (sealing (h.doing w)) (puts m.worker w x) (puts h.doing w (sealing (h.doing w))) refl
       (record { ops = p.ops; is = ap sealing p.is; runs = p.runs; local = p.local })
       (λ P v. view_in (open' rs ws) was P v)
-      (λ f e. absurd (let z : ◌≡◌ {A = ℕ} 0 1 = cc in omega arith))
+      (λ f e. absurd cc)
 
   pub looks_out : (m.worker w).stage ≡ idle → Good (with_worker m w (at_stage (m.worker w) (looking (floor m)))) (now_doing h w (in_look (floor m)))
   looks_out was =
@@ -133,14 +120,10 @@ module _ (m : Model) (h : History) (good : Good m h) (w : ℕ) (within : w < m.w
       let x = at_stage (m.worker w) idle in
       staying _ _ x nothing (puts m.worker w x) (puts h.doing w nothing) refl refl
       (λ P v. absurd (view_in (looking f) was P v))
-      (λ g e. absurd (let z : ◌≡◌ {A = ℕ} 0 1 = cc in omega arith))
+      (λ g e. absurd cc)
 
   -- an open pass has read what it knows
   pub knows : (rs : List ReadEntry) (ws : List WriteEntry) (o : Op) → (m.worker w).stage ≡ open' rs ws
       → ((ops : List Op) → Local ops rs ws → Local (o ∷ ops) rs ws)
       → Good m (now_doing h w (with_op o (h.doing w)))
-  knows rs ws o was local =
-      let p = doing_in (open' rs ws) was in
-      staying m.worker _ (m.worker w) (with_op o (h.doing w)) (leaves m.worker w (m.worker w) refl) (puts h.doing w (with_op o (h.doing w))) refl
-      (subst (λ g. Does g (last_stamp m w) good.pass (with_op o (h.doing w))) (sym was) (record { ops = o ∷ p.ops; is = ap (with_op o) p.is; runs = p.runs; local = local p.ops p.local }))
-      (λ P v. v) (λ f e. inl e)
+  knows rs ws o was local = grind (arith)

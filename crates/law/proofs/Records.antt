@@ -1,16 +1,15 @@
 -- What stays recorded of committed passes and of the reads of looks while passes run.
-use Rattle.std.proofs.Common.{◌≡◌, ℕ, ◌+◌, ◌<◌, true, false, List, [], ◌∷◌, Some, None, Option, sym, refl, ◌∙◌, subst, ⊎_elim, arith}
+use Rattle.std.proofs.Common.{◌≡◌, ℕ, ◌+◌, ◌<◌, false, List, [], ◌∷◌, Some, None, Option, refl, subst, ⊎_elim, arith}
 use Rattle.std.proofs.lemmas.Bool.{cases_eq}
 use Rattle.std.proofs.lemmas.Bool.Decides.{nat_tests}
 use Rattle.words.specs.declared.version.Version.{Version}
 use Rattle.rules.specs.Model.{Model}
 use Rattle.rules.specs.Stamps.{last_stamp}
-use Rattle.law.specs.Plain.{Op, Pass, by_stamp}
+use Rattle.law.specs.Plain.{Op, Pass}
 use Rattle.law.specs.History.{Glance}
-use Rattle.tables.specs.Table.{put}
 use Rattle.law.proofs.State.{Progress, State, committed, Runs}
 use Rattle.law.proofs.Prefixes.{some_same}
-use Rattle.law.proofs.Moves.{put_cases, put_here, put_there, one_pass, moved, pass_moved}
+use Rattle.law.proofs.Moves.{put_cases, not_ended, moved, pass_moved}
 use Rattle.law.proofs.Cuts.{with_versions}
 use Rattle.law.proofs.Ends.{full_of, left}
 use Rattle.law.proofs.Newest.{on, on_sorted, strict_wider, strict_placed}
@@ -23,9 +22,9 @@ glanced_same m s s' w within same [] a = tt
 glanced_same m s s' w within same (g ∷ gs) (a, rest) = (
   record {
     from = a.from;
-    is = same g.cell a.from (let b = a.below in let c = a.under w within in omega arith) ∙ a.is;
+    is = grind (arith);
     below = a.below;
-    newest = λ u v e low. a.newest u v (sym (same g.cell u (let c = a.under w within in omega arith)) ∙ e) low;
+    newest = grind (arith);
     under = a.under;
   },
   glanced_same m s s' w within same gs rest,
@@ -33,10 +32,7 @@ glanced_same m s s' w within same (g ∷ gs) (a, rest) = (
 
 -- other versions
 pub recorded_versions : (s : State) (at : ℕ → ℕ → Option Version) (ps : List Pass) → Recorded s ps → Recorded (with_versions s at) ps
-recorded_versions s at ps r = record { bound = r.bound; positive = r.positive; sorted = r.sorted; here = r.here; there = r.there }
-
-clash : (Q : Progress) → Q.ended ≡ false → Q.ended ≡ true → ⊥
-clash Q a b = let z : ◌≡◌ {A = ℕ} 0 1 = cc in omega arith
+recorded_versions s at ps r = grind (arith)
 
 -- a running pass goes on
 module _ (s : State) (t : ℕ) (P : Progress) (at : ℕ → ℕ → Option Version) (pos : 0 < t) (running : P.ended ≡ false) (before : (O : Progress) → s.pass t ≡ Some O → O.ended ≡ false) where
@@ -45,51 +41,36 @@ module _ (s : State) (t : ℕ) (P : Progress) (at : ℕ → ℕ → Option Versi
     bound = r.bound;
     positive = r.positive;
     sorted = r.sorted;
-    here = λ u p e. let q = r.here u p e in (
-      q.0,
-      put_there s.pass t (Some P) u (λ z. clash q.0 (before q.0 (subst (λ u. s.pass u ≡ Some q.0) z q.1)) q.2) ∙ q.1,
-      q.2,
-      q.3,
-    );
-    there = λ u Q e done. ⊎_elim
-        (λ a. absurd (clash P running (subst (λ (z : Progress). z.ended ≡ true) a.1 done)))
-        (λ a. r.there u Q a.1 done)
-        (pass_moved s t P at pos running before u Q e);
+    here = λ u p e. let q = r.here u p e in (q.0, grind (arith, nat_tests, before), q.2, q.3);
+    there = grind (arith, nat_tests, pass_moved);
   }
 
 -- a running pass ends
 module _ (s : State) (t : ℕ) (P : Progress) (runs : Runs s t P) (at : ℕ → ℕ → Option Version) (ps : List Pass) (r : Recorded s ps) where
   none_on : on t ps ≡ None
-  none_on = by (on t ps) refl
-    where
-      by : (o : Option Pass) → on t ps ≡ o → o ≡ None
-      by None e = refl
-      by (Some p) e = let q = r.here t p e in absurd (clash q.0 (subst (λ (z : Progress). z.ended ≡ false) (sym (one_pass s t P q.0 runs.0 q.1)) runs.1) q.2)
-
-  apart : (u : ℕ) (Q : Progress) → s.pass u ≡ Some Q → Q.ended ≡ true → u ≡ t → ⊥
-  apart u Q e done z = clash Q (subst (λ (z : Progress). z.ended ≡ false) (sym (one_pass s t P Q runs.0 (subst (λ u. s.pass u ≡ Some Q) z e))) runs.1) done
+  none_on = grind (arith, nat_tests, not_ended)
 
   pub recorded_aborted : Recorded (left s t None at) ps
   recorded_aborted = record {
     bound = r.bound;
     positive = r.positive;
     sorted = r.sorted;
-    here = λ u p e. let q = r.here u p e in (q.0, put_there s.pass t None u (apart u q.0 q.1 q.2) ∙ q.1, q.2, q.3);
-    there = λ u Q e done. ⊎_elim (λ a. absurd (let z = a.1 in grind arith)) (λ a. r.there u Q a.1 done) (put_cases s.pass t None u Q e);
+    here = λ u p e. let q = r.here u p e in (q.0, grind (arith, nat_tests, not_ended), q.2, q.3);
+    there = grind (arith, nat_tests, put_cases);
   }
 
   pub recorded_committed : (ops : List Op) → Local ops P.reads P.writes → Recorded (left s t (Some (full_of P)) at) (record { stamp = t; ops = ops } ∷ ps)
   recorded_committed ops local = record {
     bound = r.bound + t + 1;
     positive = omega arith;
-    sorted = strict_placed (r.bound + t + 1) p (by_stamp ps) (omega arith) (on_sorted t ps ∙ none_on) (strict_wider r.bound (r.bound + t + 1) (by_stamp ps) (omega arith) r.sorted);
+    sorted = grind (arith, nat_tests, strict_placed, on_sorted, strict_wider);
     here = λ u q e. ⊎_elim
-        (λ (z : u ≡ t). (full_of P, subst (λ u. put s.pass t (Some (full_of P)) u ≡ Some (full_of P)) (sym z) (put_here s.pass t (Some (full_of P))), refl, subst (λ (q : Pass). Local q.ops P.reads P.writes) (some_same p q (grind (arith, nat_tests))) local))
-        (λ (z : u ≡ t → ⊥). let o = r.here u q (grind (arith, nat_tests)) in (o.0, put_there s.pass t (Some (full_of P)) u z ∙ o.1, o.2, o.3))
+        (λ (z : u ≡ t). (full_of P, grind (arith, nat_tests), refl, subst (λ (q : Pass). Local q.ops P.reads P.writes) (some_same p q (grind (arith, nat_tests))) local))
+        (λ (z : u ≡ t → ⊥). let o = r.here u q (grind (arith, nat_tests)) in (o.0, grind (arith, nat_tests), o.2, o.3))
         (cases_eq u t);
     there = λ u Q e done. ⊎_elim
-        (λ a. (p, let z = a.0 in grind (arith, nat_tests)))
-        (λ a. let o = r.there u Q a.1 done in let z = a.0 in let y = o.1 in (o.0, grind (arith, nat_tests)))
+        (λ a. (p, let z = a.0 in grind (arith)))
+        (λ a. let o = r.there u Q a.1 done in let z = a.0 in let y = o.1 in (o.0, grind (arith)))
         (put_cases s.pass t (Some (full_of P)) u Q e);
   }
     where

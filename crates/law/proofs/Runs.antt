@@ -1,21 +1,20 @@
 -- The law, from what holds of the model beside the history all along a run.
-use Rattle.std.proofs.Common.{◌≡◌, ℕ, true, List, [], ◌∷◌, ◌++◌, Some, None, Option, sym, refl, ap, ◌∙◌, subst, inl, inr, arith}
-use Rattle.words.specs.Status.{pending}
-use Rattle.words.specs.declared.status.Status.{Status}
-use Rattle.words.specs.declared.status.Status.TheVariants.{Pending, Committed, Aborted}
+use Rattle.std.proofs.Common.{◌≡◌, ℕ, true, List, [], ◌∷◌, ◌++◌, Some, sym, refl, ap, subst, inl, inr, arith}
+use Rattle.std.proofs.lemmas.Bool.Decides.{nat_tests}
+use Rattle.words.specs.declared.status.Status.TheVariants.{Pending}
 use Rattle.words.specs.declared.version.Version.{Version}
 use Rattle.tables.specs.Versions.{holds_pending}
-use Rattle.tables.specs.Table.{Table, cleared}
+use Rattle.tables.specs.Table.{Table}
 use Rattle.rules.specs.Model.{Model, workers_of}
 use Rattle.rules.specs.Rules.{Done}
 use Rattle.rules.proofs.Sizes.{sizes_stay}
-use Rattle.law.specs.History.{Event, history, told_with, no_history}
+use Rattle.law.specs.History.{Event, history, told_with}
 use Rattle.rules.specs.Beneath.{Beneath}
 use Rattle.law.specs.Run.{Run, made, more}
 use Rattle.law.specs.Law.{Faithful, Least, answered, LawOfRuns}
-use Rattle.law.proofs.Under.{under, some_pending, pending_under}
+use Rattle.law.proofs.Under.{under, pending_under}
 use Rattle.law.proofs.Serial.{replays}
-use Rattle.law.proofs.Good.{state, Good}
+use Rattle.law.proofs.Good.{Good}
 use Rattle.law.proofs.Keeps.{call_keeps}
 use Rattle.law.proofs.Tied.{Tied, call_tied}
 use Rattle.law.proofs.First.{first_good}
@@ -31,8 +30,8 @@ pub record Stands (workers cells : ℕ) (es : List Event) (t : Table) (m : Model
 
 pub run_stands : (workers cells : ℕ) (es : List Event) (t : Table) (m : Model) → Run workers cells es t m → Stands workers cells es t m
 run_stands workers cells es t m (made clear size is) = record {
-  good = subst (λ m. Good m no_history) (sym is) (first_good workers cells);
-  tied = subst (Tied t) (sym is) (record { cells = size; versions = clear.versions ∙ ap (λ n. cleared n) (sym clear.cells ∙ size) });
+  good = grind (arith, nat_tests, first_good);
+  tied = grind (arith);
   workers_are = ap (λ (m : Model). m.workers) is;
   cells_are = ap (λ (m : Model). m.cells) is;
 }
@@ -42,14 +41,14 @@ run_stands workers cells es t m (more {es = es₀} {t = t₀} {m = m₀} call an
     record {
       good = subst (λ (d : Done). Good d.1 (told_with call d.0 (history es₀))) is (call_keeps m₀ (history es₀) before.good t₀.free call);
       tied = subst (λ (d : Done). Beneath t₀ m₀ call d.0 t → Tied t d.1) is (call_tied t₀ m₀ before.tied call t) steps;
-      workers_are = ap (λ (d : Done). d.1.workers) (sym is) ∙ sizes.0 ∙ before.workers_are;
-      cells_are = ap (λ (d : Done). d.1.cells) (sym is) ∙ sizes.1 ∙ before.cells_are;
+      workers_are = grind (arith);
+      cells_are = grind (arith);
     }
 
 -- each event was answered by the rules
 not_empty : (late early : List Event) (e : Event) → [] ≡ late ++ (e ∷ early) → ⊥
-not_empty [] early e q = let z : ◌≡◌ {A = ℕ} 0 1 = cc in omega arith
-not_empty (x ∷ late) early e q = let z : ◌≡◌ {A = ℕ} 0 1 = cc in omega arith
+not_empty [] early e q = cc
+not_empty (x ∷ late) early e q = cc
 
 first_same : (x y : Event) (xs ys : List Event) → x ∷ xs ≡ y ∷ ys → (x ≡ y) × (xs ≡ ys)
 first_same x y xs ys q = (cc, cc)
@@ -64,16 +63,7 @@ run_faithful workers cells es t m (more {es = es₀} {t = t₀} {m = m₀} call 
 
 -- a pending version of a list, by its stamp
 found_pending : (s : ℕ) (vs : List Version) → holds_pending s vs ≡ true → (x : Version) × (under s vs ≡ Some x) × (x.status ≡ Pending)
-found_pending s vs e = by (under s vs) refl (sym (pending_under s vs) ∙ e)
-  where
-    is_pending : (x : Version) (g : Status) → x.status ≡ g → pending g ≡ true → x.status ≡ Pending
-    is_pending x Pending q p = q
-    is_pending x Committed q p = absurd (let z : ◌≡◌ {A = ℕ} 0 1 = cc in omega arith)
-    is_pending x Aborted q p = absurd (let z : ◌≡◌ {A = ℕ} 0 1 = cc in omega arith)
-
-    by : (o : Option Version) → under s vs ≡ o → some_pending o ≡ true → (x : Version) × (under s vs ≡ Some x) × (x.status ≡ Pending)
-    by None q p = absurd (let z : ◌≡◌ {A = ℕ} 0 1 = cc in omega arith)
-    by (Some x) q p = (x, q, is_pending x x.status refl p)
+found_pending s vs e = grind (arith, nat_tests, pending_under)
 
 pub law_of_runs : LawOfRuns
 law_of_runs workers cells es t m run =
@@ -81,7 +71,7 @@ law_of_runs workers cells es t m run =
     let good = st.good in
     record {
       faithful = run_faithful workers cells es t m run;
-      serial = replays (state m good.pass) _ good.inv (history es).passes good.recorded;
+      serial = grind (arith, nat_tests, replays);
       shown = λ c l. shown m (history es) good t.free c (let e = st.cells_are in omega arith);
       snapshots = snapshots m (history es) good t.free (history es).glances good.glances;
       looks_never_wait = λ w f d call. looks_never_wait m (history es) good t.free w f d call;

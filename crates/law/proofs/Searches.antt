@@ -1,6 +1,6 @@
 -- What the searches along a cell's list find, by stamps, where stamps fall.
-use Rattle.std.proofs.Common.{◌≡◌, ℕ, ◌^◌, ◌<◌, ◌≤◌, Bool, true, false, cond, eqb, ltb, ◌⊎◌, List, [], ◌∷◌, length, Some, None, Option, sym, refl, subst, inl, inr, ⊎_elim, arith, ltb-false, ltb-true, eqb-true}
-use Rattle.std.proofs.lemmas.Bool.{cases_Bool}
+use Rattle.std.proofs.Common.{◌≡◌, ℕ, ◌^◌, ◌<◌, ◌≤◌, Bool, true, false, cond, ltb, ◌⊎◌, List, [], ◌∷◌, length, Some, None, Option, refl, inl, inr, arith, ltb-true}
+use Rattle.std.proofs.lemmas.List.{take_all}
 use Rattle.std.proofs.lemmas.Bool.Decides.{nat_tests}
 use Rattle.words.specs.Outcome.{Outcome, accepted, refused, refuse}
 use Rattle.words.specs.declared.refusal.Refusal.TheVariants.{Wait}
@@ -10,7 +10,6 @@ use Rattle.words.specs.declared.version.Version.{Version}
 use Rattle.tables.specs.Versions.{top, ordered, sinks, falls}
 use Rattle.rules.specs.Search.{reach, by_status, visible, newest, newest_below}
 use Rattle.law.proofs.Under.{under}
-use Rattle.law.proofs.Prefixes.{take_all}
 
 -- nothing stands under a stamp that is not below the first
 pub none_above : (n t : ℕ) (vs : List Version) → ordered ltb n vs ≡ true → n ≤ t → under t vs ≡ None
@@ -23,11 +22,11 @@ below_first n t (v ∷ vs) y h e = grind (arith, nat_tests, below_first v.write 
 
 falls_tail : (v : Version) (vs : List Version) → falls (v ∷ vs) ≡ true → falls vs ≡ true
 falls_tail v [] h = refl
-falls_tail v (w ∷ ws) h = grind (arith, nat_tests)
+falls_tail v (w ∷ ws) h = grind (arith)
 
 ordered_weaker : (m n : ℕ) (vs : List Version) → m ≤ n → ordered ltb m vs ≡ true → ordered ltb n vs ≡ true
 ordered_weaker m n [] le h = refl
-ordered_weaker m n (v ∷ vs) le h = grind (arith, nat_tests)
+ordered_weaker m n (v ∷ vs) le h = grind (arith)
 
 -- a list by its stamps
 abbrev pub stamps : List Version → ℕ → Option Version
@@ -46,33 +45,24 @@ Lacks passed s at = (t : ℕ) (y : Version) → at t ≡ Some y → t < s → pa
 
 first_found : (passed : Status → Type 0) (s : ℕ) (v : Version) (vs : List Version) → ordered ltb v.write vs ≡ true → v.write < s → v.status ≡ Committed → Finds passed s (stamps (v ∷ vs)) v
 first_found passed s v vs h lt e = record {
-  here = grind (arith, nat_tests);
+  here = grind (arith);
   low = lt;
   done = e;
-  between = λ t y u below above. absurd (grind (arith, nat_tests, below_first v.write t vs y));
+  between = grind (arith, nat_tests, below_first);
 }
 
 under_first : (t : ℕ) (v : Version) (vs : List Version) (y : Version) → under t (v ∷ vs) ≡ Some y → ((t ≡ v.write) × (y ≡ v)) ⊎ (under t vs ≡ Some y)
-under_first t v vs y e = ⊎_elim
-    (λ (b : eqb v.write t ≡ true). inl (sym (eqb-true v.write t b), grind (arith, nat_tests)))
-    (λ (b : eqb v.write t ≡ false). inr (grind (arith, nat_tests)))
-    (cases_Bool (eqb v.write t))
+under_first t v vs y e = grind (arith)
 
 first_lacks : (passed : Status → Type 0) (s : ℕ) (v : Version) (vs : List Version) → (v.write < s → passed v.status) → Lacks passed s (stamps vs) → Lacks passed s (stamps (v ∷ vs))
-first_lacks passed s v vs skips ih t y u below = ⊎_elim
-    (λ q. subst (λ (z : Version). passed z.status) (sym q.1) (skips (omega arith)))
-    (λ q. ih t y q below)
-    (under_first t v vs y u)
+first_lacks passed s v vs skips ih t y u below = grind (arith)
 
 first_passed : (passed : Status → Type 0) (s : ℕ) (v : Version) (vs : List Version) (x : Version) → ordered ltb v.write vs ≡ true → (v.write < s → passed v.status) → Finds passed s (stamps vs) x → Finds passed s (stamps (v ∷ vs)) x
 first_passed passed s v vs x h skips ih = record {
-  here = let e = ih.here in grind (arith, nat_tests, below_first v.write x.write vs x);
+  here = grind (arith, nat_tests, below_first);
   low = ih.low;
   done = ih.done;
-  between = λ t y u below above. ⊎_elim
-      (λ q. subst (λ (z : Version). passed z.status) (sym q.1) (skips (omega arith)))
-      (λ q. ih.between t y q below above)
-      (under_first t v vs y u);
+  between = grind (arith);
 }
 
 -- the visible version is passed over by aborted ones alone; a pending one is met, with its stamp
@@ -92,8 +82,8 @@ visible_says s [] h = inr (refl, λ t y u. absurd (grind arith))
 visible_says s (v ∷ vs) h = by (ltb v.write s) refl v.status refl (visible_says s vs (falls_tail v vs h))
   where
     by : (b : Bool) → ltb v.write s ≡ b → (g : Status) → v.status ≡ g → VisibleSays s (stamps vs) (visible s vs) → VisibleSays s (stamps (v ∷ vs)) (cond b (by_status g (refuse (Wait v.write)) (accepted v) (visible s vs)) (visible s vs))
-    by false b g e ih = visible_passed s v vs (visible s vs) h (λ lt. absurd (omega (arith, ltb-false v.write s b))) ih
-    by true b Pending e ih = inl (refl, ltb-true v.write s b, (v, grind (arith, nat_tests), e))
+    by false b g e ih = grind (arith, nat_tests, visible_passed)
+    by true b Pending e ih = grind (arith)
     by true b Committed e ih = first_found (λ g. g ≡ Aborted) s v vs h (ltb-true v.write s b) e
     by true b Aborted e ih = visible_passed s v vs (visible s vs) h (λ _. e) ih
 
@@ -114,10 +104,10 @@ newest_says s [] h = λ t y u. absurd (grind arith)
 newest_says s (v ∷ vs) h = by (ltb v.write s) refl v.status refl (newest_says s vs (falls_tail v vs h))
   where
     by : (b : Bool) → ltb v.write s ≡ b → (g : Status) → v.status ≡ g → NewestSays s (stamps vs) (newest_below s vs) → NewestSays s (stamps (v ∷ vs)) (cond b (by_status g (newest_below s vs) (accepted v) (newest_below s vs)) (newest_below s vs))
-    by false b g e ih = newest_passed s v vs (newest_below s vs) h (λ lt. absurd (omega (arith, ltb-false v.write s b))) ih
-    by true b Pending e ih = newest_passed s v vs (newest_below s vs) h (λ _ c. let z : ◌≡◌ {A = ℕ} 0 1 = cc in omega arith) ih
+    by false b g e ih = grind (arith, nat_tests, newest_passed)
+    by true b Pending e ih = newest_passed s v vs (newest_below s vs) h (λ _ c. cc) ih
     by true b Committed e ih = first_found Uncommitted s v vs h (ltb-true v.write s b) e
-    by true b Aborted e ih = newest_passed s v vs (newest_below s vs) h (λ _ c. let z : ◌≡◌ {A = ℕ} 0 1 = cc in omega arith) ih
+    by true b Aborted e ih = newest_passed s v vs (newest_below s vs) h (λ _ c. cc) ih
 
 -- the newest committed version is the newest below a bound of the list
 pub newest_bounded : (s : ℕ) (vs : List Version) → ordered ltb s vs ≡ true → newest vs ≡ newest_below s vs
@@ -127,8 +117,8 @@ newest_bounded s (v ∷ vs) h = grind (arith, nat_tests, newest_bounded s vs, or
 -- a list that falls and fits 64 bits is within reach of every search
 pub length_bound : (n : ℕ) (vs : List Version) → ordered ltb n vs ≡ true → length vs ≤ n
 length_bound n [] h = omega arith
-length_bound n (v ∷ vs) h = let r = length_bound v.write vs (grind (arith, nat_tests)) in grind (arith, nat_tests)
+length_bound n (v ∷ vs) h = let r = length_bound v.write vs (grind (arith)) in grind (arith)
 
 pub all_reached : (vs : List Version) → sinks vs ≡ true → falls vs ≡ true → reach vs ≡ vs
 all_reached [] low h = refl
-all_reached (v ∷ vs) low h = take_all (2 ^ 64) (v ∷ vs) (let r = length_bound v.write vs h in let z : v.write ≤ top = grind (arith, nat_tests) in omega arith)
+all_reached (v ∷ vs) low h = take_all (2 ^ 64) (v ∷ vs) (let r = length_bound v.write vs h in let z : v.write ≤ top = grind (arith) in omega arith)

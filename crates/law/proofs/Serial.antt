@@ -1,6 +1,7 @@
 -- From the invariant to the plain array: its value is the newest committed write, and committed
 -- passes run again on it answer as they did.
-use Rattle.std.proofs.Common.{◌≡◌, ℕ, ◌+◌, ◌-◌, ◌*◌, ◌<◌, ◌≤◌, Bool, true, false, cond, ltb, List, [], ◌∷◌, Some, None, Option, sym, refl, ap, ◌∙◌, subst, ⊎_elim, arith}
+use Rattle.std.proofs.Common.{◌≡◌, ℕ, ◌+◌, ◌-◌, ◌*◌, ◌<◌, ◌≤◌, true, cond, ltb, List, [], ◌∷◌, Some, None, Option, sym, refl, ap, ◌∙◌, ⊎_elim, arith}
+use Rattle.std.proofs.lemmas.List.{take_all}
 use Rattle.std.proofs.lemmas.Bool.{cases_lt}
 use Rattle.std.proofs.lemmas.Bool.Decides.{nat_tests}
 use Rattle.rules.specs.declared.entry.ReadEntry.{ReadEntry}
@@ -8,7 +9,7 @@ use Rattle.rules.specs.declared.entry.WriteEntry.{WriteEntry}
 use Rattle.rules.specs.Sets.{nth}
 use Rattle.law.specs.Plain.{Op, Pass, Fits, Replays, after, by_stamp, below}
 use Rattle.law.proofs.State.{Progress, State, W, R, value_in, checked, committed, Inv}
-use Rattle.law.proofs.Prefixes.{take_all, nth_short}
+use Rattle.law.proofs.Prefixes.{nth_short}
 use Rattle.law.proofs.Cross.{by_pass}
 use Rattle.law.proofs.Newest.{last_write, on, on_sorted, on_below, strict, on_strict, strict_below, wrote, array_none, array_newest}
 
@@ -31,52 +32,33 @@ Chosen f ps qs = (t : ℕ) → on t qs ≡ cond (ltb t f) (on t ps) None
 
 module _ (s : State) (line : ℕ) (inv : Inv s line) (ps : List Pass) (recorded : Recorded s ps) where
   none_at_zero : on 0 ps ≡ None
-  none_at_zero = by (on 0 ps) refl
-    where
-      by : (o : Option Pass) → on 0 ps ≡ o → o ≡ None
-      by None e = refl
-      by (Some p) e = absurd (let r = recorded.here 0 p e in let z = r.1 in let y = inv.zero in grind arith)
+  none_at_zero = grind (arith)
 
   -- what passes wrote is what is committed
   pub wrote_committed : (c t : ℕ) → 0 < t → wrote (on t ps) c ≡ committed s c t
-  wrote_committed c t pos = by (s.pass t) refl (on t ps) refl
-    where
-      by : (o : Option Progress) → s.pass t ≡ o → (q : Option Pass) → on t ps ≡ q → wrote q c ≡ committed s c t
-      by o e (Some p) h = let r = recorded.here t p h in let l = r.3.last c in let a = r.1 in let b = r.2 in grind (arith, nat_tests)
-      by None e None h = grind (arith, nat_tests)
-      by (Some P) e None h = ended P.ended refl
-        where
-          ended : (b : Bool) → P.ended ≡ b → wrote None c ≡ committed s c t
-          ended true d = absurd (let r = recorded.there t P e d in let z = r.1 in grind arith)
-          ended false d = grind (arith, nat_tests)
+  wrote_committed c t pos = grind (arith)
 
   -- the array after the passes below f
   pub array_is : (f n : ℕ) (qs : List Pass) → Chosen f ps qs → strict n qs ≡ true → (c w v : ℕ) → committed s c w ≡ Some v → w < f → ((t u : ℕ) → committed s c t ≡ Some u → t < f → t ≤ w) → after qs c ≡ v
   array_is f n qs chosen falls c w v is low new = ⊎_elim
       (λ (pos : 0 < w). array_newest n qs c w v falls
-      (let a = chosen w in let b = wrote_committed c w pos in grind (arith, nat_tests))
+      (let a = chosen w in let b = wrote_committed c w pos in grind (arith))
       (λ t u h. newer t u h (on t qs) refl))
       (λ (nil : w ≤ 0). array_none n qs c falls (λ t. nothing nil t (wrote (on t qs) c) refl) ∙ zero_value nil)
       (cases_lt 0 w)
     where
       written : (t u : ℕ) → wrote (on t qs) c ≡ Some u → (t < f) × (0 < t) × (committed s c t ≡ Some u)
-      written t u h = ⊎_elim
-          (λ (lt : t < f). ⊎_elim
-          (λ (pos : 0 < t). (lt, pos, let a = chosen t in let b = wrote_committed c t pos in grind (arith, nat_tests)))
-          (λ (nil : t ≤ 0). absurd (let z : t ≡ 0 = omega arith in let a = chosen t in let b = subst (λ t. on t ps ≡ None) (sym z) none_at_zero in grind (arith, nat_tests)))
-          (cases_lt 0 t))
-          (λ le. absurd (let a = chosen t in grind (arith, nat_tests)))
-          (cases_lt t f)
+      written t u h = grind (arith)
 
       newer : (t u : ℕ) → wrote (on t qs) c ≡ Some u → (o : Option Pass) → on t qs ≡ o → t ≤ w
       newer t u h o e = let r = written t u h in new t u r.2 r.0
 
       nothing : w ≤ 0 → (t : ℕ) (o : Option ℕ) → wrote (on t qs) c ≡ o → o ≡ None
       nothing nil t None h = refl
-      nothing nil t (Some u) h = absurd (let r = written t u h in let z = new t u r.2 r.0 in let y = r.1 in omega arith)
+      nothing nil t (Some u) h = grind (arith, nat_tests, written)
 
       zero_value : w ≤ 0 → 0 ≡ v
-      zero_value nil = let z : w ≡ 0 = omega arith in let y = subst (λ w. committed s c w ≡ Some v) z is in grind (arith, nat_tests)
+      zero_value nil = grind (arith)
 
   -- between what a committed pass read and the pass nothing is committed
   pub nothing_between : (t : ℕ) (P : Progress) (j : ℕ) (g : ReadEntry) → s.pass t ≡ Some P → P.ended ≡ true → nth P.reads j ≡ Some g → (w u : ℕ) → committed s g.cell w ≡ Some u → w < t → w ≤ g.stamp
@@ -97,20 +79,16 @@ module _ (s : State) (line : ℕ) (inv : Inv s line) (ps : List Pass) (recorded 
   replay n (p ∷ qs) falls chosen = (again (recorded.here p.stamp p first), replay p.stamp qs rest earlier)
     where
       rest : strict p.stamp qs ≡ true
-      rest = grind (arith, nat_tests)
+      rest = grind (arith)
 
       low : p.stamp < n
-      low = grind (arith, nat_tests)
+      low = grind (arith)
 
       first : on p.stamp ps ≡ Some p
-      first = let a = chosen p.stamp in let b = low in grind (arith, nat_tests)
+      first = grind (arith)
 
       earlier : Chosen p.stamp ps qs
-      earlier t = by (on t qs) refl
-        where
-          by : (o : Option Pass) → on t qs ≡ o → o ≡ cond (ltb t p.stamp) (on t ps) None
-          by None e = let a = chosen t in let b = low in grind (arith, nat_tests)
-          by (Some q) e = let a = chosen t in let b = low in let c = on_strict p.stamp t qs q rest e in grind (arith, nat_tests)
+      earlier t = grind (arith, nat_tests, on_strict)
 
       again : (P : Progress) × (s.pass p.stamp ≡ Some P) × (P.ended ≡ true) × Local p.ops P.reads P.writes → Fits p.ops (after qs)
       again (P, is, done, local) = local.fits (after qs) (λ j g n.
@@ -119,14 +97,10 @@ module _ (s : State) (line : ℕ) (inv : Inv s line) (ps : List Pass) (recorded 
 
   -- the whole list by stamps, and the part of it below f
   whole : Chosen recorded.bound ps (by_stamp ps)
-  whole t = by (on t (by_stamp ps)) refl
-    where
-      by : (o : Option Pass) → on t (by_stamp ps) ≡ o → o ≡ cond (ltb t recorded.bound) (on t ps) None
-      by None e = let a = on_sorted t ps in grind (arith, nat_tests)
-      by (Some p) e = let a = on_sorted t ps in let b = on_strict recorded.bound t (by_stamp ps) p recorded.sorted e in grind (arith, nat_tests)
+  whole t = grind (arith, nat_tests, on_sorted, on_strict)
 
   part : (f : ℕ) → Chosen f ps (below f (by_stamp ps))
-  part f t = on_below t f (by_stamp ps) ∙ ap (λ o. cond (ltb t f) o None) (on_sorted t ps)
+  part f t = grind (arith, nat_tests, on_below, on_sorted)
 
   pub replays : Replays (by_stamp ps)
   replays = replay recorded.bound (by_stamp ps) recorded.sorted whole
@@ -136,14 +110,7 @@ module _ (s : State) (line : ℕ) (inv : Inv s line) (ps : List Pass) (recorded 
   newest_held c w v is new = array_is recorded.bound recorded.bound (by_stamp ps) whole recorded.sorted c w v is low (λ t u h _. new t u h)
     where
       low : w < recorded.bound
-      low = ⊎_elim
-          (λ (pos : 0 < w). by pos (on w ps) refl)
-          (λ (nil : w ≤ 0). let b = recorded.positive in omega arith)
-          (cases_lt 0 w)
-        where
-          by : 0 < w → (o : Option Pass) → on w ps ≡ o → w < recorded.bound
-          by pos None e = absurd (let a = wrote_committed c w pos in grind arith)
-          by pos (Some p) e = on_strict recorded.bound w (by_stamp ps) p recorded.sorted (on_sorted w ps ∙ e)
+      low = grind (arith, nat_tests, on_strict, on_sorted)
 
   pub newest_below_held : (f c w v : ℕ) → committed s c w ≡ Some v → w < f → ((t u : ℕ) → committed s c t ≡ Some u → t < f → t ≤ w) → after (below f (by_stamp ps)) c ≡ v
   newest_below_held f c w v is low new = array_is f recorded.bound (below f (by_stamp ps)) (part f) (strict_below recorded.bound f (by_stamp ps) recorded.sorted) c w v is low new

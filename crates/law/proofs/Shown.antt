@@ -1,15 +1,15 @@
 -- What a good map shows: the newest committed values, the snapshots of looks, the floor.
-use Rattle.std.proofs.Common.{◌≡◌, ℕ, ◌<◌, ◌≤◌, Bool, true, false, cond, ltb, List, [], ◌∷◌, Some, sym, refl, ap, ◌∙◌, subst, ⊎_elim, arith}
+use Rattle.std.proofs.Common.{◌≡◌, ℕ, ◌<◌, ◌≤◌, List, [], ◌∷◌, Some, sym, refl, ap, ◌∙◌, subst, ⊎_elim, arith}
 use Rattle.std.proofs.lemmas.Bool.{cases_lt}
+use Rattle.std.proofs.lemmas.Bool.Decides.{nat_tests}
 use Rattle.words.specs.Outcome.{Outcome, accepted, refused}
-use Rattle.words.specs.declared.refusal.Refusal.TheVariants.{NoWorker}
 use Rattle.words.specs.declared.version.Version.{Version}
 use Rattle.tables.specs.Versions.{top}
 use Rattle.rules.specs.declared.call.Call.TheVariants.{Show, Look}
-use Rattle.rules.specs.Model.{Stage, idle, open', sealed, looking, Model, table_of, with_worker, at_stage}
+use Rattle.rules.specs.Model.{Model, table_of}
 use Rattle.rules.specs.Stamps.{floor, keep_line}
 use Rattle.rules.specs.Search.{newest_below, search}
-use Rattle.rules.specs.Rules.{Done, accept, deny, upon, if_idle, outcome}
+use Rattle.rules.specs.Rules.{accept, upon, outcome}
 use Rattle.law.specs.Plain.{after, by_stamp}
 use Rattle.law.specs.History.{Glance, History}
 use Rattle.law.specs.Law.{Least, Snapshots}
@@ -54,22 +54,12 @@ module _ (m : Model) (h : History) (good : Good m h) (free : ℕ → ℕ) where
 
   -- look answers the floor
   look_answers : (w f : ℕ) → (outcome free m (Look w)).0 ≡ accepted f → floor m ≡ f
-  look_answers w f e = by (ltb w m.workers) (m.worker w).stage e
-    where
-      next : Done
-      next = accept (floor m) (with_worker m w (at_stage (m.worker w) (looking (floor m))))
-
-      by : (b : Bool) (g : Stage) → (cond b (if_idle g m next) (deny NoWorker m)).0 ≡ accepted f → floor m ≡ f
-      by true idle e = let z : floor m ≡ f = cc in z
-      by true (open' rs ws) e = absurd (let z : ◌≡◌ {A = ℕ} 0 1 = cc in omega arith)
-      by true (sealed rs ws k) e = absurd (let z : ◌≡◌ {A = ℕ} 0 1 = cc in omega arith)
-      by true (looking l) e = absurd (let z : ◌≡◌ {A = ℕ} 0 1 = cc in omega arith)
-      by false g e = absurd (let z : ◌≡◌ {A = ℕ} 0 1 = cc in omega arith)
+  look_answers w f e = grind (arith)
 
   pub floors : (w f : ℕ) → (outcome free m (Look w)).0 ≡ accepted f → Least h.last m.workers f
   floors w f e = subst (Least h.last m.workers) (look_answers w f e) (record {
-    lowest = λ v l. subst (λ t. floor m ≤ t) (sym (good.last v)) (floor_lower m good.some v l);
+    lowest = grind (arith, nat_tests, floor_lower);
     worker = (floor_met m good.some).0;
     within = (floor_met m good.some).1;
-    is = (floor_met m good.some).2 ∙ sym (good.last (floor_met m good.some).0);
+    is = grind (arith);
   })

@@ -1,5 +1,5 @@
 -- install, stamp and check: a sealed pass does its next step.
-use Rattle.std.proofs.Common.{◌≡◌, ℕ, ◌+◌, ◌-◌, ◌*◌, ◌<◌, ◌≤◌, Bool, true, false, cond, ◌&&◌, eqb, ◌⊎◌, List, length, Some, None, Option, sym, refl, ap, ◌∙◌, subst, inl, inr, ⊎_elim, arith}
+use Rattle.std.proofs.Common.{◌≡◌, ℕ, ◌+◌, ◌-◌, ◌*◌, ◌<◌, ◌≤◌, Bool, true, false, cond, ◌&&◌, eqb, ◌⊎◌, List, length, Some, None, Option, sym, refl, ap, ◌∙◌, subst, inl, arith}
 use Rattle.std.proofs.lemmas.Bool.{cases_eq}
 use Rattle.std.proofs.lemmas.Bool.Decides.{nat_tests}
 use Rattle.words.specs.Outcome.{accepted}
@@ -15,28 +15,26 @@ use Rattle.rules.specs.Model.{sealed, Worker, Model, table_of, with_worker, with
 use Rattle.rules.specs.Stamps.{last_stamp, keep_line}
 use Rattle.rules.specs.Sets.{nth}
 use Rattle.rules.specs.Search.{visible, search}
-use Rattle.rules.specs.Rules.{Step, to_install, to_stamp, to_check_read, to_check_write, next_step}
+use Rattle.rules.specs.Rules.{to_install, to_stamp, to_check_read, to_check_write, next_step}
 use Rattle.law.specs.History.{History}
 use Rattle.law.proofs.Under.{under, change, under_with, under_changed}
 use Rattle.law.proofs.State.{Progress, State, Inv}
 use Rattle.law.proofs.Prefixes.{some_same, nth_short}
 use Rattle.law.proofs.Searches.{Finds}
 use Rattle.law.proofs.Cross.{cross_read, cross_write}
-use Rattle.law.proofs.Moves.{put_here, put_there, moved, one_pass, positive, committed_moved}
+use Rattle.tables.proofs.Lengths.{put_other}
+use Rattle.law.proofs.Moves.{moved, positive}
 use Rattle.law.proofs.Goes.{Same, stays, goes}
 use Rattle.law.proofs.Installs.{installs}
 use Rattle.law.proofs.Good.{running, state, InPass, Good, puts, leaves, keeps}
 use Rattle.law.proofs.Quiet.{doing_in}
-use Rattle.law.proofs.Records.{glanced_same, recorded_moved}
+use Rattle.law.proofs.Records.{glanced_same}
 use Rattle.law.proofs.Found.{visible_found}
-use Rattle.law.proofs.Turns.{Turn, turn}
+use Rattle.law.proofs.Turns.{turn}
 
 -- a property of every list, where one is changed
 pub each_list : {A : Type 0} (Q : ℕ → A → Type 0) (f : ℕ → A) (c : ℕ) (x : A) → Q c x → ((d : ℕ) → Q d (f d)) → (d : ℕ) → Q d (put f c x d)
-each_list Q f c x new old d = ⊎_elim
-    (λ (e : d ≡ c). subst (λ d. Q d (put f c x d)) (sym e) (subst (Q c) (sym (put_here f c x)) new))
-    (λ n. subst (Q d) (sym (put_there f c x d n)) (old d))
-    (cases_eq d c)
+each_list Q f c x new old d = grind (arith)
 
 module _ (m : Model) (h : History) (good : Good m h) (w : ℕ) (within : w < m.workers)
     (rs : List ReadEntry) (ws : List WriteEntry) (k : ℕ) (was : (m.worker w).stage ≡ sealed rs ws k) where
@@ -56,7 +54,7 @@ module _ (m : Model) (h : History) (good : Good m h) (w : ℕ) (within : w < m.w
   pos = positive s (keep_line m) good.inv t P here.runs
 
   before : (O : Progress) → good.pass t ≡ Some O → O.ended ≡ false
-  before O e = ap (λ (z : Progress). z.ended) (one_pass s t P O here.runs e)
+  before O e = grind (arith)
 
   -- the versions of a step: they were there, or are the pass's own
   abbrev OldOrOwn : ℕ → List Version → Type 0
@@ -74,17 +72,17 @@ module _ (m : Model) (h : History) (good : Good m h) (w : ℕ) (within : w < m.w
     last = leaves h.last w t (good.last w);
     later = omega arith;
     spent = (good.clocks w).1;
-    does = record { ops = here.ops; is = here.is; runs = put_here good.pass t (Some N); local = here.local };
+    does = grind (arith);
     same = λ Q v. refl;
-    own = λ Q e r. some_same Q N (sym e ∙ put_here good.pass t (Some N));
-    elsewhere = λ u n. put_there good.pass t (Some N) u n;
-    looks = λ f e. absurd (let z : ◌≡◌ {A = ℕ} 0 1 = cc in omega arith);
+    own = grind (arith);
+    elsewhere = λ u n. put_other good.pass t (Some N) u n;
+    looks = λ f e. absurd cc;
     inv = inv;
     falling = falling;
     inside = inside;
     versions = versions;
-    recorded = recorded_moved s t N (λ c u. under u (ls c)) pos refl before h.passes good.recorded;
-    glances = glanced_same m s (moved s t N (λ c u. under u (ls c))) w within (λ c u _. committed_moved s t N (λ c u. under u (ls c)) pos refl before c u) h.glances good.glances;
+    recorded = grind (arith);
+    glances = grind (arith, nat_tests, glanced_same);
   })
     where
       N : Progress
@@ -96,10 +94,7 @@ module _ (m : Model) (h : History) (good : Good m h) (w : ℕ) (within : w < m.w
   -- the lists stay
   unlisted : Inv (moved (state m good.pass) (last_stamp m w) (running rs ws (k + 1)) (λ c u. under u (m.lists c))) (keep_line m)
       → Good (with_worker m w (at_stage (m.worker w) (sealed rs ws (k + 1)))) h
-  unlisted inv = stepping m.lists good.falling good.inside (λ c u y e. inl (y, e)) inv
-
-  turn_is : (step : Step) → next_step rs ws k ≡ step → Turn rs ws k step
-  turn_is step e = subst (Turn rs ws k) e (turn rs ws k)
+  unlisted inv = grind (arith, nat_tests, stepping)
 
   pub installing : (free : ℕ → ℕ) (e : WriteEntry) (n : ℕ) → next_step rs ws k ≡ to_install e → insert_answer (table_of free m) e.cell (last_stamp m w) ≡ accepted n
       → Good (with_worker (with_list m e.cell (with_version (new_version (last_stamp m w) e.value) (m.lists e.cell))) w (at_stage (m.worker w) (sealed rs ws (k + 1)))) h
@@ -107,28 +102,22 @@ module _ (m : Model) (h : History) (good : Good m h) (w : ℕ) (within : w < m.w
       (each_list (λ _ vs. falls vs ≡ true) m.lists e.cell (with_version new (m.lists e.cell)) (falls_with new (m.lists e.cell) untaken (good.falling e.cell)) good.falling)
       (λ c. each_list (λ c vs. (u : ℕ) (y : Version) → under u vs ≡ Some y → c < m.cells) m.lists e.cell (with_version new (m.lists e.cell)) (λ u y q. in_cell) good.inside c)
       (each_list OldOrOwn m.lists e.cell (with_version new (m.lists e.cell)) new_or_old (λ c u y q. inl (y, q)))
-      (installs s (keep_line m) good.inv t P (here.runs, refl) e (turn_is (to_install e) next) (λ c u. under u (put m.lists e.cell (with_version new (m.lists e.cell)) c)) with_it)
+      (installs s (keep_line m) good.inv t P (here.runs, refl) e (turn rs ws k (to_install e) next) (λ c u. under u (put m.lists e.cell (with_version new (m.lists e.cell)) c)) with_it)
     where
       new : Version
       new = new_version (last_stamp m w) e.value
 
       untaken : holds (last_stamp m w) (m.lists e.cell) ≡ false
-      untaken = grind (arith, nat_tests)
+      untaken = grind (arith)
 
       in_cell : e.cell < m.cells
-      in_cell = grind (arith, nat_tests)
+      in_cell = grind (arith)
 
       new_or_old : OldOrOwn e.cell (with_version new (m.lists e.cell))
-      new_or_old u y q = ⊎_elim
-          (λ (o : u ≡ last_stamp m w). inr o)
-          (λ (o : u ≡ last_stamp m w → ⊥). inl (y, let z = under_with u new (m.lists e.cell) in grind (arith, nat_tests)))
-          (cases_eq u (last_stamp m w))
+      new_or_old u y q = grind (arith, nat_tests, under_with)
 
       with_it : (c u : ℕ) → under u (put m.lists e.cell (with_version new (m.lists e.cell)) c) ≡ cond (eqb e.cell c && eqb (last_stamp m w) u) (Some new) (under u (m.lists c))
-      with_it c u = ⊎_elim
-          (λ (q : c ≡ e.cell). let z = under_with u new (m.lists e.cell) in grind (arith, nat_tests))
-          (λ (q : c ≡ e.cell → ⊥). grind (arith, nat_tests))
-          (cases_eq c e.cell)
+      with_it c u = grind (arith, nat_tests, under_with)
 
   pub stamping : (e : ReadEntry) → next_step rs ws k ≡ to_stamp e
       → Good (with_worker (with_list m e.cell (at_stamp e.stamp (raised (last_stamp m w)) (m.lists e.cell))) w (at_stage (m.worker w) (sealed rs ws (k + 1)))) h
@@ -148,13 +137,10 @@ module _ (m : Model) (h : History) (good : Good m h) (w : ℕ) (within : w < m.w
       ls = put m.lists e.cell changed
 
       next_is : (length ws ≤ k) × (nth rs (k - length ws) ≡ Some e)
-      next_is = turn_is (to_stamp e) next
+      next_is = turn rs ws k (to_stamp e) next
 
       at_changed : (c u : ℕ) → under u (ls c) ≡ cond (eqb e.cell c && eqb e.stamp u) (change (raised (last_stamp m w)) (under u (m.lists c))) (under u (m.lists c))
-      at_changed c u = ⊎_elim
-          (λ (q : c ≡ e.cell). let z = under_changed u e.stamp (raised (last_stamp m w)) (λ v. refl) (m.lists e.cell) in grind (arith, nat_tests))
-          (λ (q : c ≡ e.cell → ⊥). grind (arith, nat_tests))
-          (cases_eq c e.cell)
+      at_changed c u = grind (arith, nat_tests, under_changed, cases_eq c e.cell)
 
       itself : (x : Version) → Same x x
       itself x = record { status = refl; value = refl; read = omega arith }
@@ -172,11 +158,7 @@ module _ (m : Model) (h : History) (good : Good m h) (w : ℕ) (within : w < m.w
           by false (Some x) p r = (x, p, subst (Same x) (some_same x y r) (itself x))
 
       on : (c u : ℕ) (x : Version) → under u (m.lists c) ≡ Some x → (y : Version) × (under u (ls c) ≡ Some y) × Same x y
-      on c u x q = by (eqb e.cell c && eqb e.stamp u) (at_changed c u ∙ ap (λ o. cond (eqb e.cell c && eqb e.stamp u) (change (raised (last_stamp m w)) o) o) q)
-        where
-          by : (b : Bool) → under u (ls c) ≡ cond b (Some (raised (last_stamp m w) x)) (Some x) → (y : Version) × (under u (ls c) ≡ Some y) × Same x y
-          by true p = (raised (last_stamp m w) x, p, lifted x)
-          by false p = (x, p, itself x)
+      on c u x q = grind (arith, nat_tests, at_changed)
 
       raised_read : (j : ℕ) (g : ReadEntry) (y : Version) → nth rs j ≡ Some g → length ws + j ≡ k → under g.stamp (ls g.cell) ≡ Some y → last_stamp m w ≤ y.read
       raised_read j g y n q r =
@@ -185,8 +167,8 @@ module _ (m : Model) (h : History) (good : Good m h) (w : ℕ) (within : w < m.w
           read (under e.stamp (m.lists e.cell)) refl (sym (at_changed e.cell e.stamp) ∙ b)
         where
           read : (o : Option Version) → under e.stamp (m.lists e.cell) ≡ o → cond (eqb e.cell e.cell && eqb e.stamp e.stamp) (change (raised (last_stamp m w)) o) o ≡ Some y → last_stamp m w ≤ y.read
-          read None p b = absurd (grind (arith, nat_tests))
-          read (Some x) p b = let z : raised (last_stamp m w) x ≡ y = some_same (raised (last_stamp m w) x) y (grind (arith, nat_tests)) in let z' = ap (λ (v : Version). v.read) z in omega arith
+          read None p b = absurd (grind (arith))
+          read (Some x) p b = let z : raised (last_stamp m w) x ≡ y = some_same (raised (last_stamp m w) x) y (grind (arith)) in let z' = ap (λ (v : Version). v.read) z in omega arith
 
   pub checking_read : (free : ℕ → ℕ) (e : ReadEntry) (v : Version) → next_step rs ws k ≡ to_check_read e → search (visible (last_stamp m w)) (table_of free m) e.cell ≡ accepted v → v.write ≡ e.stamp
       → Good (with_worker m w (at_stage (m.worker w) (sealed rs ws (k + 1)))) h
@@ -200,7 +182,7 @@ module _ (m : Model) (h : History) (good : Good m h) (w : ℕ) (within : w < m.w
       (λ n f q r. absurd (let z = nth_short rs (k - (length ws + length rs)) e next_is.1 in omega (arith, next_is.0))))
     where
       next_is : (length ws + length rs ≤ k) × (nth rs (k - (length ws + length rs)) ≡ Some e)
-      next_is = turn_is (to_check_read e) next
+      next_is = turn rs ws k (to_check_read e) next
 
       low : keep_line m ≤ last_stamp m w
       low = good.inv.line_below (last_stamp m w) P (here.runs, refl)
@@ -219,7 +201,7 @@ module _ (m : Model) (h : History) (good : Good m h) (w : ℕ) (within : w < m.w
       u Q j g h' p far (same ∙ ap (λ (z : WriteEntry). z.cell) it) above below))
     where
       next_is : (length ws + 2 * length rs ≤ k) × (nth ws (k - (length ws + 2 * length rs)) ≡ Some e)
-      next_is = turn_is (to_check_write e) next
+      next_is = turn rs ws k (to_check_write e) next
 
       low : keep_line m ≤ last_stamp m w
       low = good.inv.line_below (last_stamp m w) P (here.runs, refl)

@@ -1,5 +1,5 @@
 -- A refused call is refused by itself or because a search or an insert is.
-use Rattle.std.proofs.Common.{◌≡◌, ℕ, refl, subst, arith}
+use Rattle.std.proofs.Common.{◌≡◌, ℕ, refl, subst}
 use Rattle.words.specs.Outcome.{refused}
 use Rattle.rules.specs.declared.call.Call.{Call}
 use Rattle.rules.specs.Model.{Model}
@@ -12,7 +12,7 @@ module _ (free : ℕ → ℕ) (m : Model) where
 
   -- what is accepted is no refusal
   accepting : (call : Call) (k : ℕ) (m' : Model) → Explained call (accept k m')
-  accepting call k m' n d e = let z : ◌≡◌ {A = ℕ} 0 1 = cc in absurd (omega arith)
+  accepting call k m' n d e = absurd cc
 
   refusing : (call : Call) (n d : ℕ) → Why free m call n d → Explained call (refused n d, m)
   refusing call n d why i j e = (refl, subst (λ i. Why free m call i j) (let p : n ≡ i = cc in p) (subst (λ j. Why free m call n j) (let p : d ≡ j = cc in p) why))

@@ -1,7 +1,6 @@
-pub mod Parts
-pub mod Refusals
-pub mod Same
 pub mod Ways
 pub mod Explained
+pub mod Refusals
 pub mod Sizes
 pub mod Marked
+pub mod Same

@@ -19,21 +19,24 @@ use Rattle.rules.specs.Stamps.{last_clock, adjusted, ticked, timestamp, last_sta
 use Rattle.rules.specs.Sets.{find_read, find_write, full, replaced, nth}
 use Rattle.rules.specs.Search.{visible, newest, newest_below, search}
 
--- the answer to a call, and the model afterwards
+-- the answer to a call, and what it is about afterwards: the model, or what a worker's call can change
+abbrev pub Came : Type 0 → Type 0
+Came A = Outcome ℕ × A
+
 abbrev pub Done : Type 0
-Done = Outcome ℕ × Model
+Done = Came Model
 
-abbrev pub accept : ℕ → Model → Done
-accept n m = (accepted n, m)
+abbrev pub accept : {A : Type 0} → ℕ → A → Came A
+accept n a = (accepted n, a)
 
--- a refused call leaves the model as it is
-abbrev pub deny : Refusal → Model → Done
-deny e m = (refuse e, m)
+-- a refused call leaves all as it is
+abbrev pub deny : {A : Type 0} → Refusal → A → Came A
+deny e a = (refuse e, a)
 
 -- what another rule answered, passed on: k where it accepted
-abbrev pub upon : {A : Type 0} → Outcome A → Model → (A → Done) → Done
-upon (accepted a) m k = k a
-upon (refused n d) m k = (refused n d, m)
+abbrev pub upon : {A B : Type 0} → Outcome B → A → (B → Came A) → Came A
+upon (accepted b) a k = k b
+upon (refused n d) a k = (refused n d, a)
 
 -- x where a rule accepts, else y
 abbrev pub if_accepted : {A B : Type 0} → Outcome A → B → B → B
@@ -48,18 +51,25 @@ abbrev pub with_a_cell : Model → ℕ → Done → Done
 with_a_cell m c d = cond (nat_lt c m.cells) d (deny NoCell m)
 
 -- d for an idle worker
-abbrev pub if_idle : Stage → Model → Done → Done
-if_idle idle m d = d
-if_idle (open' rs ws) m d = deny OutOfTurn m
-if_idle (sealed rs ws k) m d = deny OutOfTurn m
-if_idle (looking f) m d = deny OutOfTurn m
+abbrev pub if_idle : {A : Type 0} → Stage → A → Came A → Came A
+if_idle idle a d = d
+if_idle (open' rs ws) a d = deny OutOfTurn a
+if_idle (sealed rs ws k) a d = deny OutOfTurn a
+if_idle (looking f) a d = deny OutOfTurn a
 
 -- d of the sets of an open pass
-abbrev pub if_open : Stage → Model → (List ReadEntry → List WriteEntry → Done) → Done
-if_open idle m d = deny OutOfTurn m
-if_open (open' rs ws) m d = d rs ws
-if_open (sealed rs ws k) m d = deny OutOfTurn m
-if_open (looking f) m d = deny OutOfTurn m
+abbrev pub if_open : {A : Type 0} → Stage → A → (List ReadEntry → List WriteEntry → Came A) → Came A
+if_open idle a d = deny OutOfTurn a
+if_open (open' rs ws) a d = d rs ws
+if_open (sealed rs ws k) a d = deny OutOfTurn a
+if_open (looking f) a d = deny OutOfTurn a
+
+-- d of the sets of a sealed pass and of its steps done
+abbrev pub if_sealed : {A : Type 0} → Stage → A → (List ReadEntry → List WriteEntry → ℕ → Came A) → Came A
+if_sealed idle a d = deny OutOfTurn a
+if_sealed (open' rs ws) a d = deny OutOfTurn a
+if_sealed (sealed rs ws k) a d = d rs ws k
+if_sealed (looking f) a d = deny OutOfTurn a
 
 -- begin and pulse: the clock goes on, and the stage becomes g
 abbrev pub tick : Model → ℕ → ℕ → Stage → Done
@@ -84,14 +94,14 @@ read_new m w c rs ws seen =
     (upon seen m (λ v. accept v.value (with_worker m w (at_stage (m.worker w) (open' (rs ++ (record { cell = c; stamp = v.write; value = v.value } ∷ [])) ws)))))
 
 -- the value in the read set, else a new read
-abbrev pub read_known : Option ReadEntry → Model → Done → Done
-read_known None m new = new
-read_known (Some e) m new = accept e.value m
+abbrev pub read_known : {A : Type 0} → Option ReadEntry → A → Came A → Came A
+read_known None a new = new
+read_known (Some e) a new = accept e.value a
 
 -- the value in the write set, else another read
-abbrev pub read_written : Option WriteEntry → Model → Done → Done
-read_written None m new = new
-read_written (Some e) m new = accept e.value m
+abbrev pub read_written : {A : Type 0} → Option WriteEntry → A → Came A → Came A
+read_written None a new = new
+read_written (Some e) a new = accept e.value a
 
 abbrev pub read_in : Table → Model → ℕ → ℕ → Stage → Done
 read_in t m w c idle = deny OutOfTurn m
@@ -138,8 +148,11 @@ next_step rs ws k =
     (cond (nat_lt k (steps rs ws)) (step_write to_check_write (nth ws (k - (length ws + 2 * length rs)))) finished)))
 
 -- an accepted step: k goes on by 1
+abbrev pub steps_left : List ReadEntry → List WriteEntry → ℕ → ℕ
+steps_left rs ws k = steps rs ws - (k + 1)
+
 abbrev pub stepped : Model → ℕ → List ReadEntry → List WriteEntry → ℕ → Done
-stepped m w rs ws k = accept (steps rs ws - (k + 1)) (with_worker m w (at_stage (m.worker w) (sealed rs ws (k + 1))))
+stepped m w rs ws k = accept (steps_left rs ws k) (with_worker m w (at_stage (m.worker w) (sealed rs ws (k + 1))))
 
 abbrev pub install_step : Step → Table → Model → ℕ → List ReadEntry → List WriteEntry → ℕ → Done
 install_step (to_install e) t m w rs ws k =
@@ -175,13 +188,6 @@ check_step (to_check_write e) t m w rs ws k =
     (λ v. cond (nat_lt (last_stamp m w) v.read) (deny ReadLater m) (stepped m w rs ws k))
 check_step finished t m w rs ws k = deny OutOfTurn m
 
--- a step of a sealed pass
-abbrev pub if_sealed : Stage → Model → (List ReadEntry → List WriteEntry → ℕ → Done) → Done
-if_sealed idle m d = deny OutOfTurn m
-if_sealed (open' rs ws) m d = deny OutOfTurn m
-if_sealed (sealed rs ws k) m d = d rs ws k
-if_sealed (looking f) m d = deny OutOfTurn m
-
 -- the pass's version of one write ended; a version that is not there, or not pending, stays
 abbrev pub ended_one : Ending → ℕ → ℕ → (ℕ → List Version) → WriteEntry → ℕ → List Version
 ended_one how cells s ls e =
@@ -196,8 +202,11 @@ ended_all how cells s ls (e ∷ es) = ended_all how cells s (ended_one how cells
 abbrev pub counted : Model → ℕ
 counted m = m.commits
 
+abbrev pub one_more : ℕ → ℕ
+one_more n = min (n + 1) 4294967295
+
 abbrev pub count_one : Model → Model
-count_one m = with_commits m (min (m.commits + 1) 4294967295)
+count_one m = with_commits m (one_more m.commits)
 
 -- what commit does to the model
 abbrev pub committed : Model → ℕ → List WriteEntry → Model

@@ -1,61 +1,25 @@
 -- The rules of the map once more, cut by worker: a worker's call is a rule over that worker (`begin_by`
--- and so on), and `turn_outcome` puts what it comes to back into the model. It is the rules' function.
-use Rattle.std.specs.Prelude.{ℕ, ◌+◌, ◌-◌, min, max, cond, List, [], ◌∷◌, ◌++◌, length, take, Some, None, Option, ◌==◌, nat_lt}
-use Rattle.words.specs.Outcome.{Outcome, accepted, refused, refuse}
-use Rattle.words.specs.declared.refusal.Refusal.{Refusal}
+-- and so on), and `turn_outcome` puts what it comes to back into the model. It is the rules' function. Both
+-- stand: by the rules a refused call leaves m itself, here a model that is only proved equal to it.
+use Rattle.std.specs.Prelude.{ℕ, ◌+◌, min, max, cond, List, [], ◌∷◌, ◌++◌, length, take, Some, None, Option, ◌==◌, nat_lt}
+use Rattle.words.specs.Outcome.{Outcome, accepted, refused}
 use Rattle.words.specs.declared.refusal.Refusal.TheVariants.{OutOfTurn, SetFull, ClockSpent, Changed, ReadLater}
 use Rattle.words.specs.declared.status.Ending.{Ending}
 use Rattle.words.specs.declared.status.Ending.TheVariants.{Commit as Commits', Abort as Aborts'}
 use Rattle.words.specs.declared.version.Version.{Version}
 use Rattle.words.specs.Version.{new_version}
-use Rattle.tables.specs.Versions.{with_version, at_stamp, raised, kept}
-use Rattle.tables.specs.Table.{Table, put, insert_answer, raise_answer, cut_answer}
+use Rattle.tables.specs.Versions.{with_version, at_stamp, raised}
+use Rattle.tables.specs.Table.{Table, put, insert_answer, raise_answer}
 use Rattle.rules.specs.declared.entry.ReadEntry.{ReadEntry}
 use Rattle.rules.specs.declared.entry.WriteEntry.{WriteEntry}
 use Rattle.rules.specs.declared.call.Call.{Call}
 use Rattle.rules.specs.declared.call.Call.TheVariants.{Begin, Pulse, Sync, Read, Write, Seal, Install, Stamp, Check, Commit, Abort, Look, Close, Show, Commits, Collect}
-use Rattle.rules.specs.Model.{Stage, idle, open', sealed, looking, Worker, Model, table_of, with_worker, with_list, with_lists, with_commits, at_stage}
-use Rattle.rules.specs.Stamps.{last_clock, adjusted, ticked, timestamp, floor, keep_line}
+use Rattle.rules.specs.Model.{Stage, idle, open', sealed, looking, Worker, Model, table_of, with_worker, with_lists, at_stage}
+use Rattle.rules.specs.Stamps.{last_clock, adjusted, ticked, timestamp, floor}
 use Rattle.rules.specs.Sets.{find_read, find_write, full, replaced}
-use Rattle.rules.specs.Search.{visible, newest, newest_below, search}
-use Rattle.rules.specs.Rules.{Done, with_a_worker, with_a_cell, Step, to_install, to_stamp, to_check_read, to_check_write, finished, next_step, steps, gone, ended_all}
-
--- the answer to a call, and what it is about (a worker, a worker and the lists, a model) afterwards
-abbrev pub Came : Type 0 → Type 0
-Came A = Outcome ℕ × A
-
-abbrev pub accept_by : {A : Type 0} → ℕ → A → Came A
-accept_by n a = (accepted n, a)
-
--- a refused call leaves all as it is
-abbrev pub deny_by : {A : Type 0} → Refusal → A → Came A
-deny_by e a = (refuse e, a)
-
--- what another rule answered, passed on: k where it accepted
-abbrev pub upon_by : {A B : Type 0} → Outcome B → A → (B → Came A) → Came A
-upon_by (accepted b) a k = k b
-upon_by (refused n d) a k = (refused n d, a)
-
--- d for an idle worker
-abbrev pub if_idle_by : {A : Type 0} → Stage → A → Came A → Came A
-if_idle_by idle a d = d
-if_idle_by (open' rs ws) a d = deny_by OutOfTurn a
-if_idle_by (sealed rs ws k) a d = deny_by OutOfTurn a
-if_idle_by (looking f) a d = deny_by OutOfTurn a
-
--- d of the sets of an open pass
-abbrev pub if_open_by : {A : Type 0} → Stage → A → (List ReadEntry → List WriteEntry → Came A) → Came A
-if_open_by idle a d = deny_by OutOfTurn a
-if_open_by (open' rs ws) a d = d rs ws
-if_open_by (sealed rs ws k) a d = deny_by OutOfTurn a
-if_open_by (looking f) a d = deny_by OutOfTurn a
-
--- d of the sets of a sealed pass and of its steps done
-abbrev pub if_sealed_by : {A : Type 0} → Stage → A → (List ReadEntry → List WriteEntry → ℕ → Came A) → Came A
-if_sealed_by idle a d = deny_by OutOfTurn a
-if_sealed_by (open' rs ws) a d = deny_by OutOfTurn a
-if_sealed_by (sealed rs ws k) a d = d rs ws k
-if_sealed_by (looking f) a d = deny_by OutOfTurn a
+use Rattle.rules.specs.Search.{visible, search}
+use Rattle.rules.specs.Rules.{Done, accept, deny, upon, if_idle, if_open, if_sealed, with_a_worker, with_a_cell, read_known, read_written, Step, to_install, to_stamp, to_check_read, to_check_write, finished, next_step, steps, gone, ended_all, count_one, outcome}
+pub use Rattle.rules.specs.Rules.{Came, accept as accept_by, deny as deny_by, upon as upon_by, read_known as read_known_by, read_written as read_written_by, steps_left, one_more}
 
 -- the timestamp of the pass that the worker x, numbered w, runs
 abbrev pub pass_stamp : Worker → ℕ → ℕ
@@ -64,8 +28,8 @@ pass_stamp x w = timestamp x.last w
 -- begin and pulse: the clock goes on, and the stage becomes g
 abbrev pub tick_by : Stage → ℕ → ℕ → Worker → Came Worker
 tick_by g w units x =
-    if_idle_by x.stage x
-    (cond (nat_lt last_clock (adjusted x units)) (deny_by ClockSpent x) (accept_by (timestamp (adjusted x units) w) (ticked x units g)))
+    if_idle x.stage x
+    (cond (nat_lt last_clock (adjusted x units)) (deny ClockSpent x) (accept (timestamp (adjusted x units) w) (ticked x units g)))
 
 abbrev pub begin_by : ℕ → ℕ → Worker → Came Worker
 begin_by w units x = tick_by (open' [] []) w units x
@@ -76,50 +40,37 @@ pulse_by w units x = tick_by idle w units x
 -- sync with another's clock
 abbrev pub sync_by : ℕ → Worker → Came Worker
 sync_by other x =
-    accept_by (max x.clock other) (record { clock = max x.clock other; boost = x.boost; last = x.last; stage = x.stage })
+    accept (max x.clock other) (record { clock = max x.clock other; boost = x.boost; last = x.last; stage = x.stage })
 
 -- read of a cell that is in neither set: the order of its refusals
 abbrev pub read_new_by : ℕ → List ReadEntry → List WriteEntry → Outcome Version → Worker → Came Worker
 read_new_by c rs ws seen x =
-    cond (full rs) (deny_by SetFull x)
-    (upon_by seen x (λ v. accept_by v.value (at_stage x (open' (rs ++ (record { cell = c; stamp = v.write; value = v.value } ∷ [])) ws))))
-
--- the value in the read set, else a new read
-abbrev pub read_known_by : Option ReadEntry → Worker → Came Worker → Came Worker
-read_known_by None x new = new
-read_known_by (Some e) x new = accept_by e.value x
-
--- the value in the write set, else another read
-abbrev pub read_written_by : Option WriteEntry → Worker → Came Worker → Came Worker
-read_written_by None x new = new
-read_written_by (Some e) x new = accept_by e.value x
+    cond (full rs) (deny SetFull x)
+    (upon seen x (λ v. accept v.value (at_stage x (open' (rs ++ (record { cell = c; stamp = v.write; value = v.value } ∷ [])) ws))))
 
 abbrev pub read_in_by : Stage → Table → ℕ → ℕ → Worker → Came Worker
-read_in_by idle t w c x = deny_by OutOfTurn x
+read_in_by idle t w c x = deny OutOfTurn x
 read_in_by (open' rs ws) t w c x =
-    read_written_by (find_write c ws) x
-    (read_known_by (find_read c rs) x (read_new_by c rs ws (search (visible (pass_stamp x w)) t c) x))
-read_in_by (sealed rs ws k) t w c x = deny_by OutOfTurn x
-read_in_by (looking f) t w c x = upon_by (search (visible f) t c) x (λ v. accept_by v.value x)
+    read_written (find_write c ws) x
+    (read_known (find_read c rs) x (read_new_by c rs ws (search (visible (pass_stamp x w)) t c) x))
+read_in_by (sealed rs ws k) t w c x = deny OutOfTurn x
+read_in_by (looking f) t w c x = upon (search (visible f) t c) x (λ v. accept v.value x)
 
 abbrev pub read_by : Table → ℕ → ℕ → Worker → Came Worker
 read_by t w c x = read_in_by x.stage t w c x
 
 -- write
 abbrev pub written_by : Option WriteEntry → WriteEntry → List ReadEntry → List WriteEntry → Worker → Came Worker
-written_by None e rs ws x = cond (full ws) (deny_by SetFull x) (accept_by (length ws + 1) (at_stage x (open' rs (ws ++ (e ∷ [])))))
-written_by (Some old) e rs ws x = accept_by (length ws) (at_stage x (open' rs (replaced e ws)))
+written_by None e rs ws x = cond (full ws) (deny SetFull x) (accept (length ws + 1) (at_stage x (open' rs (ws ++ (e ∷ [])))))
+written_by (Some old) e rs ws x = accept (length ws) (at_stage x (open' rs (replaced e ws)))
 
 abbrev pub write_by : ℕ → ℕ → Worker → Came Worker
-write_by c value x = if_open_by x.stage x (λ rs ws. written_by (find_write c ws) (record { cell = c; value = value }) rs ws x)
+write_by c value x = if_open x.stage x (λ rs ws. written_by (find_write c ws) (record { cell = c; value = value }) rs ws x)
 
 abbrev pub seal_by : Worker → Came Worker
-seal_by x = if_open_by x.stage x (λ rs ws. accept_by (steps rs ws) (at_stage x (sealed rs ws 0)))
+seal_by x = if_open x.stage x (λ rs ws. accept (steps rs ws) (at_stage x (sealed rs ws 0)))
 
--- an accepted step: k goes on by 1
-abbrev pub steps_left : List ReadEntry → List WriteEntry → ℕ → ℕ
-steps_left rs ws k = steps rs ws - (k + 1)
-
+-- one more step is done
 abbrev pub one_on : Worker → List ReadEntry → List WriteEntry → ℕ → Worker
 one_on x rs ws k = at_stage x (sealed rs ws (k + 1))
 
@@ -129,41 +80,41 @@ Lists = ℕ → List Version
 
 abbrev pub install_step_by : Step → Table → ℕ → List ReadEntry → List WriteEntry → ℕ → Worker → Came (Worker × Lists)
 install_step_by (to_install e) t w rs ws k x =
-    upon_by (insert_answer t e.cell (pass_stamp x w)) (x, t.versions)
-    (λ _. accept_by (steps_left rs ws k) (one_on x rs ws k, put t.versions e.cell (with_version (new_version (pass_stamp x w) e.value) (t.versions e.cell))))
-install_step_by (to_stamp e) t w rs ws k x = deny_by OutOfTurn (x, t.versions)
-install_step_by (to_check_read e) t w rs ws k x = deny_by OutOfTurn (x, t.versions)
-install_step_by (to_check_write e) t w rs ws k x = deny_by OutOfTurn (x, t.versions)
-install_step_by finished t w rs ws k x = deny_by OutOfTurn (x, t.versions)
+    upon (insert_answer t e.cell (pass_stamp x w)) (x, t.versions)
+    (λ _. accept (steps_left rs ws k) (one_on x rs ws k, put t.versions e.cell (with_version (new_version (pass_stamp x w) e.value) (t.versions e.cell))))
+install_step_by (to_stamp e) t w rs ws k x = deny OutOfTurn (x, t.versions)
+install_step_by (to_check_read e) t w rs ws k x = deny OutOfTurn (x, t.versions)
+install_step_by (to_check_write e) t w rs ws k x = deny OutOfTurn (x, t.versions)
+install_step_by finished t w rs ws k x = deny OutOfTurn (x, t.versions)
 
 abbrev pub install_by : Table → ℕ → Worker → Came (Worker × Lists)
-install_by t w x = if_sealed_by x.stage (x, t.versions) (λ rs ws k. install_step_by (next_step rs ws k) t w rs ws k x)
+install_by t w x = if_sealed x.stage (x, t.versions) (λ rs ws k. install_step_by (next_step rs ws k) t w rs ws k x)
 
 abbrev pub stamp_step_by : Step → Table → ℕ → List ReadEntry → List WriteEntry → ℕ → Worker → Came (Worker × Lists)
-stamp_step_by (to_install e) t w rs ws k x = deny_by OutOfTurn (x, t.versions)
+stamp_step_by (to_install e) t w rs ws k x = deny OutOfTurn (x, t.versions)
 stamp_step_by (to_stamp e) t w rs ws k x =
-    upon_by (gone (raise_answer t e.cell e.stamp)) (x, t.versions)
-    (λ _. accept_by (steps_left rs ws k) (one_on x rs ws k, put t.versions e.cell (at_stamp e.stamp (raised (pass_stamp x w)) (t.versions e.cell))))
-stamp_step_by (to_check_read e) t w rs ws k x = deny_by OutOfTurn (x, t.versions)
-stamp_step_by (to_check_write e) t w rs ws k x = deny_by OutOfTurn (x, t.versions)
-stamp_step_by finished t w rs ws k x = deny_by OutOfTurn (x, t.versions)
+    upon (gone (raise_answer t e.cell e.stamp)) (x, t.versions)
+    (λ _. accept (steps_left rs ws k) (one_on x rs ws k, put t.versions e.cell (at_stamp e.stamp (raised (pass_stamp x w)) (t.versions e.cell))))
+stamp_step_by (to_check_read e) t w rs ws k x = deny OutOfTurn (x, t.versions)
+stamp_step_by (to_check_write e) t w rs ws k x = deny OutOfTurn (x, t.versions)
+stamp_step_by finished t w rs ws k x = deny OutOfTurn (x, t.versions)
 
 abbrev pub stamp_by : Table → ℕ → Worker → Came (Worker × Lists)
-stamp_by t w x = if_sealed_by x.stage (x, t.versions) (λ rs ws k. stamp_step_by (next_step rs ws k) t w rs ws k x)
+stamp_by t w x = if_sealed x.stage (x, t.versions) (λ rs ws k. stamp_step_by (next_step rs ws k) t w rs ws k x)
 
 abbrev pub check_step_by : Step → Table → ℕ → List ReadEntry → List WriteEntry → ℕ → Worker → Came Worker
-check_step_by (to_install e) t w rs ws k x = deny_by OutOfTurn x
-check_step_by (to_stamp e) t w rs ws k x = deny_by OutOfTurn x
+check_step_by (to_install e) t w rs ws k x = deny OutOfTurn x
+check_step_by (to_stamp e) t w rs ws k x = deny OutOfTurn x
 check_step_by (to_check_read e) t w rs ws k x =
-    upon_by (search (visible (pass_stamp x w)) t e.cell) x
-    (λ v. cond (v.write == e.stamp) (accept_by (steps_left rs ws k) (one_on x rs ws k)) (deny_by Changed x))
+    upon (search (visible (pass_stamp x w)) t e.cell) x
+    (λ v. cond (v.write == e.stamp) (accept (steps_left rs ws k) (one_on x rs ws k)) (deny Changed x))
 check_step_by (to_check_write e) t w rs ws k x =
-    upon_by (search (visible (pass_stamp x w)) t e.cell) x
-    (λ v. cond (nat_lt (pass_stamp x w) v.read) (deny_by ReadLater x) (accept_by (steps_left rs ws k) (one_on x rs ws k)))
-check_step_by finished t w rs ws k x = deny_by OutOfTurn x
+    upon (search (visible (pass_stamp x w)) t e.cell) x
+    (λ v. cond (nat_lt (pass_stamp x w) v.read) (deny ReadLater x) (accept (steps_left rs ws k) (one_on x rs ws k)))
+check_step_by finished t w rs ws k x = deny OutOfTurn x
 
 abbrev pub check_by : Table → ℕ → Worker → Came Worker
-check_by t w x = if_sealed_by x.stage x (λ rs ws k. check_step_by (next_step rs ws k) t w rs ws k x)
+check_by t w x = if_sealed x.stage x (λ rs ws k. check_step_by (next_step rs ws k) t w rs ws k x)
 
 -- a worker whose pass has ended: idle, with its boost for the next
 abbrev pub at_rest : ℕ → Worker → Worker
@@ -175,27 +126,27 @@ ends how boost t w ws x = (at_rest boost x, ended_all how t.cells (pass_stamp x 
 
 abbrev pub commit_by : Table → ℕ → Worker → Came (Worker × Lists)
 commit_by t w x =
-    if_sealed_by x.stage (x, t.versions)
-    (λ rs ws k. cond (k == steps rs ws) (accept_by (pass_stamp x w) (ends Commits' 0 t w ws x)) (deny_by OutOfTurn (x, t.versions)))
+    if_sealed x.stage (x, t.versions)
+    (λ rs ws k. cond (k == steps rs ws) (accept (pass_stamp x w) (ends Commits' 0 t w ws x)) (deny OutOfTurn (x, t.versions)))
 
 abbrev pub abort_in_by : Stage → Table → ℕ → Worker → Came (Worker × Lists)
-abort_in_by idle t w x = deny_by OutOfTurn (x, t.versions)
-abort_in_by (open' rs ws) t w x = accept_by 0 (ends Aborts' 10 t w [] x)
-abort_in_by (sealed rs ws k) t w x = accept_by (min k (length ws)) (ends Aborts' 10 t w (take (min k (length ws)) ws) x)
-abort_in_by (looking f) t w x = deny_by OutOfTurn (x, t.versions)
+abort_in_by idle t w x = deny OutOfTurn (x, t.versions)
+abort_in_by (open' rs ws) t w x = accept 0 (ends Aborts' 10 t w [] x)
+abort_in_by (sealed rs ws k) t w x = accept (min k (length ws)) (ends Aborts' 10 t w (take (min k (length ws)) ws) x)
+abort_in_by (looking f) t w x = deny OutOfTurn (x, t.versions)
 
 abbrev pub abort_by : Table → ℕ → Worker → Came (Worker × Lists)
 abort_by t w x = abort_in_by x.stage t w x
 
 -- look from a floor
 abbrev pub look_by : ℕ → Worker → Came Worker
-look_by f x = if_idle_by x.stage x (accept_by f (at_stage x (looking f)))
+look_by f x = if_idle x.stage x (accept f (at_stage x (looking f)))
 
 abbrev pub close_in_by : Stage → Worker → Came Worker
-close_in_by idle x = deny_by OutOfTurn x
-close_in_by (open' rs ws) x = deny_by OutOfTurn x
-close_in_by (sealed rs ws k) x = deny_by OutOfTurn x
-close_in_by (looking f) x = accept_by 0 (at_stage x idle)
+close_in_by idle x = deny OutOfTurn x
+close_in_by (open' rs ws) x = deny OutOfTurn x
+close_in_by (sealed rs ws k) x = deny OutOfTurn x
+close_in_by (looking f) x = accept 0 (at_stage x idle)
 
 abbrev pub close_by : Worker → Came Worker
 close_by x = close_in_by x.stage x
@@ -214,15 +165,12 @@ at_worker m w f = with_a_worker m w (in_place m w (f (m.worker w)))
 abbrev pub at_both : Model → ℕ → (Worker → Came (Worker × Lists)) → Done
 at_both m w f = with_a_worker m w (in_both m w (f (m.worker w)))
 
--- the counter of commits, held at 4,294,967,295
-abbrev pub one_more : ℕ → ℕ
-one_more n = min (n + 1) 4294967295
-
+-- a commit that was accepted is counted
 abbrev pub counting : Done → Done
-counting (accepted n, m) = accept_by n (with_commits m (one_more m.commits))
+counting (accepted n, m) = accept n (count_one m)
 counting (refused n d, m) = (refused n d, m)
 
--- the rules' function once more, a worker's call as a rule over that worker
+-- the rules' function once more, a worker's call as a rule over that worker; show, commits and collect are no worker's
 abbrev pub turn_outcome : (ℕ → ℕ) → Model → Call → Done
 turn_outcome free m (Begin w units) = at_worker m w (begin_by w units)
 turn_outcome free m (Pulse w units) = at_worker m w (pulse_by w units)
@@ -237,8 +185,6 @@ turn_outcome free m (Commit w) = counting (at_both m w (commit_by (table_of free
 turn_outcome free m (Abort w) = at_both m w (abort_by (table_of free m) w)
 turn_outcome free m (Look w) = at_worker m w (look_by (floor m))
 turn_outcome free m (Close w) = at_worker m w close_by
-turn_outcome free m (Show c) = upon_by (search newest (table_of free m) c) m (λ v. accept_by v.value m)
-turn_outcome free m Commits = accept_by m.commits m
-turn_outcome free m (Collect c) =
-    upon_by (search (newest_below (keep_line m)) (table_of free m) c) m
-    (λ v. upon_by (cut_answer (table_of free m) c v.write) m (λ n. accept_by n (with_list m c (kept v.write (m.lists c)))))
+turn_outcome free m (Show c) = outcome free m (Show c)
+turn_outcome free m Commits = outcome free m Commits
+turn_outcome free m (Collect c) = outcome free m (Collect c)

@@ -1,6 +1,6 @@
 // The sixteen calls of a map, with their numbers. Numbers come from outside and are not limited.
 
-#[derive(Clone, Copy)]
+#[derive(Clone, Copy, Debug, PartialEq, Eq)]
 pub enum Call {
     // Opens a pass after so many units of 0.1 microsecond.
     Begin { worker: u64, units: u64 },

@@ -9,7 +9,7 @@ use rules::WriteEntry;
 use searches::find;
 use words::Refusal;
 
-#[derive(Clone, Copy)]
+#[derive(Clone, Copy, Debug, PartialEq, Eq)]
 pub enum Edit {
     Write(WriteEntry),
     Seal,
