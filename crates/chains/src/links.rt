@@ -22,7 +22,8 @@ pub(crate) struct Links<'a> {
 }
 
 impl<'a> Links<'a> {
-    // Rewrites the record at `at`, and leads the cell's chain, behind `newer`, to `to`.
+    // Rewrites the record at `at`, and leads the cell's chain, behind `newer`, to `to`. Cell and `newer` are two
+    // parameters, and no link: a link would not name the chain that the promises speak of.
     fn relink(
         &mut self,
         cell: usize,

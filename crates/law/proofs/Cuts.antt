@@ -1,4 +1,5 @@
 -- collect, and a keep line that rises.
+use Rattle.std.proofs.lemmas.Bool.Decides.{nat_tests}
 use Rattle.std.proofs.Common.{◌≡◌, ℕ, ◌<◌, ◌≤◌, cond, ◌&&◌, eqb, ltb, ◌⊎◌, Some, None, Option, inl, inr, ⊎_elim, arith}
 use Rattle.words.specs.declared.version.Version.{Version}
 use Rattle.law.proofs.State.{Progress, State, Runs, Stands, Inv}
@@ -11,9 +12,6 @@ module _ (s : State) (line : ℕ) (inv : Inv s line) (c w : ℕ) (stands : Stand
     (at : ℕ → ℕ → Option Version) (cut : (d u : ℕ) → at d u ≡ cond (eqb c d && ltb u w) None (s.at d u)) where
   back : (d u : ℕ) (x : Version) → at d u ≡ Some x → s.at d u ≡ Some x
   back d u x h = let z = cut d u in grind (arith)
-
-  still : (d u : ℕ) (x : Version) → s.at d u ≡ Some x → (d ≡ c → w ≤ u) → at d u ≡ Some x
-  still d u x h le = grind (arith)
 
   -- a committed version stays, or that at which the cut was made is newer
   stays : (d u : ℕ) → Stands s d u → Stands (with_versions s at) d u ⊎ ((u < w) × Stands (with_versions s at) d w)
@@ -42,19 +40,4 @@ module _ (s : State) (line : ℕ) (inv : Inv s line) (c w : ℕ) (stands : Stand
 
 -- the keep line rises, but not above a running pass
 pub rises : (s : State) (line line' : ℕ) → Inv s line → line ≤ line' → ((t : ℕ) (P : Progress) → Runs s t P → line' ≤ t) → Inv s line'
-rises s line line' inv le under = record {
-  agrees = record {
-    stands = inv.agrees.stands;
-    owned = inv.agrees.owned;
-    there = inv.agrees.there;
-    missing = inv.agrees.missing;
-    covered = grind (arith);
-    stamped = inv.agrees.stamped;
-  };
-  zero = inv.zero;
-  apart = inv.apart;
-  sources = inv.sources;
-  crossing = inv.crossing;
-  full = inv.full;
-  line_below = under;
-}
+rises s line line' inv le under = grind (arith, nat_tests)

@@ -1,5 +1,5 @@
 -- commit and abort: a running pass ends, and its versions with it.
-use Rattle.std.proofs.Common.{◌≡◌, ℕ, ◌+◌, ◌*◌, ◌<◌, true, cond, eqb, ◌⊎◌, length, Some, None, Option, sym, refl, ap, ◌∙◌, subst, inl, inr, ⊎_elim, arith}
+use Rattle.std.proofs.Common.{◌≡◌, ℕ, ◌+◌, ◌*◌, true, cond, eqb, Some, None, Option, sym, refl, ◌∙◌, subst, inl, inr, ⊎_elim, arith}
 use Rattle.std.proofs.lemmas.List.{take_all}
 use Rattle.std.proofs.lemmas.Bool.{cases_eq}
 use Rattle.std.proofs.lemmas.Bool.Decides.{nat_tests}
@@ -12,9 +12,8 @@ use Rattle.tables.specs.Table.{put}
 use Rattle.tables.specs.Versions.{marked}
 use Rattle.rules.specs.Sets.{nth}
 use Rattle.law.proofs.Under.{change}
-use Rattle.law.proofs.State.{Progress, State, W, R, value_in, installed, checked, committed, committed_by, Runs, Stands, Agrees, Inv}
+use Rattle.law.proofs.State.{Progress, State, W, R, value_in, installed, committed, committed_by, Runs, Stands, Agrees, Inv}
 use Rattle.law.proofs.Prefixes.{some_same}
-use Rattle.law.proofs.Moves.{positive}
 
 -- the pass once it is committed
 abbrev pub full_of : Progress → Progress
@@ -29,9 +28,6 @@ committed_left s t next at c w d = grind (arith)
 
 module _ (s : State) (line : ℕ) (inv : Inv s line) (t : ℕ) (P : Progress) (runs : Runs s t P) (how : Ending) (next : Option Progress)
     (at : ℕ → ℕ → Option Version) (ending : (c u : ℕ) → at c u ≡ cond (eqb t u) (change (marked how) (s.at c u)) (s.at c u)) where
-  pos : 0 < t
-  pos = positive s line inv t P runs.0
-
   -- every version of the pass is pending, and of a write it has installed
   pub its_version : (c : ℕ) (x : Version) → s.at c t ≡ Some x → (x.status ≡ Pending) × (installed P c ≡ Some x.value)
   its_version c x h = by (installed P c) refl
@@ -40,18 +36,8 @@ module _ (s : State) (line : ℕ) (inv : Inv s line) (t : ℕ) (P : Progress) (r
       by None i = grind (arith)
       by (Some v) i = grind (arith)
 
-  -- elsewhere nothing changes, and there only statuses do
-  at_apart : (c u : ℕ) → (u ≡ t → ⊥) → at c u ≡ s.at c u
-  at_apart c u d = let z = ending c u in grind (arith)
-
   at_here : (c : ℕ) (x : Version) → s.at c t ≡ Some x → at c t ≡ Some (marked how x)
   at_here c x h = let z = ending c t in grind (arith)
-
-  at_back : (c u : ℕ) (y : Version) → at c u ≡ Some y → (x : Version) × (s.at c u ≡ Some x) × (y.value ≡ x.value) × (y.read ≡ x.read) × (((u ≡ t) × (y.status ≡ ended how)) ⊎ ((u ≡ t → ⊥) × (y.status ≡ x.status)))
-  at_back c u y h = grind (arith)
-
-  not_yet : (c v : ℕ) → committed s c t ≡ Some v → ⊥
-  not_yet c v h = grind (arith)
 
   committed_apart : (c w : ℕ) → (w ≡ t → ⊥) → committed (left s t next at) c w ≡ committed s c w
   committed_apart c w d = committed_left s t next at c w d
@@ -65,9 +51,6 @@ module _ (s : State) (line : ℕ) (inv : Inv s line) (t : ℕ) (P : Progress) (r
   module _ (new_is : (Q : Progress) → next ≡ Some Q → (Q ≡ full_of P) × (P.k ≡ 2 * (W P + R P))) (over : ended how ≡ Pending → ⊥)
       (yes : (c : ℕ) (x : Version) → s.at c t ≡ Some x → ended how ≡ Committed → committed_by next c ≡ Some x.value)
       (gives : (c v : ℕ) → committed_by next c ≡ Some v → (ended how ≡ Committed) × ((x : Version) × (s.at c t ≡ Some x))) where
-    pass_left : (u : ℕ) (Q : Progress) → (left s t next at).pass u ≡ Some Q → ((u ≡ t) × (Q ≡ full_of P) × (P.k ≡ 2 * (W P + R P))) ⊎ ((u ≡ t → ⊥) × (s.pass u ≡ Some Q))
-    pass_left u Q h = grind (arith)
-
     -- who runs afterwards ran before, under another stamp
     runs_left : (u : ℕ) (Q : Progress) → Runs (left s t next at) u Q → (u ≡ t → ⊥) × Runs s u Q
     runs_left u Q r = grind (arith)
@@ -106,12 +89,6 @@ module _ (s : State) (line : ℕ) (inv : Inv s line) (t : ℕ) (P : Progress) (r
       full = grind (arith);
       line_below = λ u Q r. inv.line_below u Q (runs_left u Q r).1;
     }
-      where
-        far_before : (A O : Progress) (j : ℕ) → O.reads ≡ A.reads → O.writes ≡ A.writes → O.k ≡ A.k → W A + R A + j < A.k → W O + R O + j < O.k
-        far_before A O j p q r h = let a = ap length p in let b = ap length q in omega arith
-
-        checked_before : (A O : Progress) (c v : ℕ) → O.reads ≡ A.reads → O.writes ≡ A.writes → O.k ≡ A.k → checked A c ≡ Some v → checked O c ≡ Some v
-        checked_before A O c v p q r h = rw (p, q, r) h
 
 -- commit: the pass has done all its steps
 module _ (s : State) (line : ℕ) (inv : Inv s line) (t : ℕ) (P : Progress) (runs : Runs s t P)

@@ -8,7 +8,7 @@ use Rattle.words.specs.declared.version.Version.{Version}
 use Rattle.rules.specs.declared.entry.ReadEntry.{ReadEntry}
 use Rattle.rules.specs.declared.entry.WriteEntry.{WriteEntry}
 use Rattle.rules.specs.Sets.{nth}
-use Rattle.law.proofs.State.{Progress, State, W, R, value_in, installed, checked, Runs, Stands, Agrees, Inv}
+use Rattle.law.proofs.State.{Progress, State, W, R, value_in, installed, checked, Runs, Agrees, Inv}
 use Rattle.law.proofs.Prefixes.{value_step}
 use Rattle.law.proofs.Moves.{not_ended, owned_moved, positive, one_pass, moved, advance}
 
@@ -42,9 +42,6 @@ module _ (s : State) (line : ℕ) (inv : Inv s line) (t : ℕ) (P : Progress) (r
   same_installed : (c : ℕ) → installed (stepped P) c ≡ installed P c
   same_installed c = grind (arith, nat_tests, take_all)
 
-  still : (c u : ℕ) → Stands s c u → Stands (moved s t (stepped P) at) c u
-  still c u (x, h, e) = let y = rises.on c u x h in (y.0, y.1, y.2.status ∙ e)
-
   goes_agrees : ((j : ℕ) (g : ReadEntry) (y : Version) → nth P.reads j ≡ Some g → W P + j ≡ P.k → at g.cell g.stamp ≡ Some y → t ≤ y.read) → Agrees (moved s t (stepped P) at) line
   goes_agrees fresh = record {
     stands = grind (arith);
@@ -65,9 +62,6 @@ module _ (s : State) (line : ℕ) (inv : Inv s line) (t : ℕ) (P : Progress) (r
 
       no_version : (c u : ℕ) → s.at c u ≡ None → at c u ≡ None
       no_version c u h = grind (arith)
-
-      mine : (u j : ℕ) (g : ReadEntry) (y : Version) → u ≡ t → nth P.reads j ≡ Some g → W P + j < P.k + 1 → at g.cell g.stamp ≡ Some y → u ≤ y.read
-      mine u j g y e n far here = grind (arith)
 
   -- a step keeps the invariant, if what it checks crosses nothing
   pub goes : ((j : ℕ) (g : ReadEntry) (y : Version) → nth P.reads j ≡ Some g → W P + j ≡ P.k → at g.cell g.stamp ≡ Some y → t ≤ y.read)

@@ -131,53 +131,15 @@ pub record Change (m : Model) (h : History) (good : Good m h) (m' : Model) (h' :
   pub glances : AllGlanced m (state m' pass) h'.glances
 
 module _ (m : Model) (h : History) (good : Good m h) (m' : Model) (h' : History) (w : ℕ) (x : Worker) (d : Doing) (pass : ℕ → Option Progress) (change : Change m h good m' h' w x d pass) where
-  -- last clocks only rise
-  rising : (v : ℕ) → (m.worker v).last ≤ (m'.worker v).last
-  rising v = ⊎_elim
-      (λ (e : v ≡ w). subst (λ v. (m.worker v).last ≤ (m'.worker v).last) (sym e) (subst (λ (y : Worker). (m.worker w).last ≤ y.last) (sym change.worker.here) change.later))
-      (λ n. subst (λ (y : Worker). (m.worker v).last ≤ y.last) (sym (change.worker.apart v n)) (omega arith))
-      (cases_eq v w)
-
-  stamps_rise : (v : ℕ) → last_stamp m v ≤ last_stamp m' v
-  stamps_rise v = let r = rising v in omega arith
-
-  known_on : (u : ℕ) → Known m u → Known m' u
-  known_on u k = record {
-    worker = k.worker;
-    within = let e = change.workers in let l = k.within in omega arith;
-    clock = k.clock;
-    is = k.is;
-    past = let r = rising k.worker in let p = k.past in omega arith;
-  }
-
   stamp_now : last_stamp m' w ≡ timestamp x.last w
   stamp_now = ap (λ (y : Worker). timestamp y.last w) change.worker.here
-
-  known_now : Known m' (timestamp x.last w)
-  known_now = record {
-    worker = w;
-    within = grind (arith);
-    clock = x.last;
-    is = refl;
-    past = grind (arith);
-  }
 
   -- another worker's timestamp
   apart : (v a : ℕ) → v < m.workers → (v ≡ w → ⊥) → timestamp a v ≡ timestamp x.last w → ⊥
   apart v a l n e = grind (arith)
 
-  -- by whether a worker is the one that changes
-  stage_then : (v : ℕ) → (v ≡ w → ⊥) → (m'.worker v).stage ≡ (m.worker v).stage
-  stage_then v n = ap (λ (y : Worker). y.stage) (change.worker.apart v n)
-
-  stage_now : (m'.worker w).stage ≡ x.stage
-  stage_now = ap (λ (y : Worker). y.stage) change.worker.here
-
   outside_still : (v : ℕ) → m'.workers ≤ v → (m'.worker v).stage ≡ idle
   outside_still v le = grind (arith)
-
-  looks_still : (v f : ℕ) → (m'.worker v).stage ≡ looking f → ((m.worker v).stage ≡ looking f) ⊎ ((keep_line m ≤ f) × (0 < f) × ((v : ℕ) → v < m.workers → f ≤ last_stamp m v))
-  looks_still v f e = grind (arith)
 
   look_over : (v f : ℕ) → (m'.worker v).stage ≡ looking f → (keep_line m ≤ f) × (0 < f) × ((v : ℕ) → v < m.workers → f ≤ last_stamp m v)
   look_over v f e = grind (arith, nat_tests, line_look)

@@ -2,7 +2,7 @@
 use Rattle.std.proofs.Common.{◌≡◌, ℕ, ◌+◌, ◌-◌, ◌*◌, ◌<◌, false, cond, ◌&&◌, eqb, ◌⊎◌, take, Some, None, Option, sym, refl, ap, ◌∙◌, subst, ⊎_elim, arith}
 use Rattle.std.proofs.lemmas.Bool.{cases_eq}
 use Rattle.std.proofs.lemmas.Bool.Decides.{nat_tests}
-use Rattle.words.specs.declared.status.Status.TheVariants.{Pending, Committed}
+use Rattle.words.specs.declared.status.Status.TheVariants.{Pending}
 use Rattle.words.specs.declared.version.Version.{Version}
 use Rattle.words.specs.Version.{new_version}
 use Rattle.rules.specs.declared.entry.ReadEntry.{ReadEntry}
@@ -53,9 +53,6 @@ module _ (s : State) (line : ℕ) (inv : Inv s line) (t : ℕ) (P : Progress) (r
     stamped = grind (arith, nat_tests, short, not_read);
   }
     where
-      fresh_pending : (y : Version) → y ≡ new_version t e.value → y.status ≡ Committed → ⊥
-      fresh_pending y q h = cc
-
       here : (u : ℕ) → u ≡ t → Runs (moved s t (stepped P) at) u (stepped P)
       here u q = grind (arith)
 
@@ -70,9 +67,6 @@ module _ (s : State) (line : ℕ) (inv : Inv s line) (t : ℕ) (P : Progress) (r
           (λ (p : e.cell ≡ c). (new_version t e.value, (let z = with_it c t in grind (arith)), refl, grind (arith)))
           (λ (p : e.cell ≡ c → ⊥). let x = inv.agrees.there t P c v runs (grind (arith)) in (x.0, stays_there c t x.0 x.1, x.2, x.3))
           (cases_eq e.cell c)
-
-      still_none : (c : ℕ) → cond (eqb e.cell c) (Some e.value) (installed P c) ≡ None → at c t ≡ None
-      still_none c h = grind (arith)
 
       still : (c u : ℕ) → Stands s c u → Stands (moved s t (stepped P) at) c u
       still c u (x, h, d) = (x, stays_there c u x h, d)

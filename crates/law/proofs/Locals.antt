@@ -81,10 +81,7 @@ local_none = record { fits = λ a h. tt; last = λ c. refl }
 
 -- write
 pub local_added : (ops : List Op) (rs : List ReadEntry) (ws : List WriteEntry) (e : WriteEntry) → find_write e.cell ws ≡ None → Local ops rs ws → Local (writes e.cell e.value ∷ ops) rs (ws ++ (e ∷ []))
-local_added ops rs ws e new l = record {
-  fits = l.fits;
-  last = grind (arith, nat_tests, value_added, unwritten_value);
-}
+local_added ops rs ws e new l = grind (arith, nat_tests, value_added, unwritten_value)
 
 pub local_replaced : (ops : List Op) (rs : List ReadEntry) (ws : List WriteEntry) (e o : WriteEntry) → find_write e.cell ws ≡ Some o → Local ops rs ws → Local (writes e.cell e.value ∷ ops) rs (replaced e ws)
 local_replaced ops rs ws e o old l = record {
@@ -94,10 +91,7 @@ local_replaced ops rs ws e o old l = record {
 
 -- a read of what the pass wrote, of what it read, and a new one
 pub local_own : (ops : List Op) (rs : List ReadEntry) (ws : List WriteEntry) (c : ℕ) (e : WriteEntry) → find_write c ws ≡ Some e → Local ops rs ws → Local (reads c e.value ∷ ops) rs ws
-local_own ops rs ws c e own l = record {
-  fits = grind (arith, nat_tests, ops_leave, value_found);
-  last = l.last;
-}
+local_own ops rs ws c e own l = grind (arith, nat_tests, ops_leave, value_found)
 
 find_nth : (c : ℕ) (rs : List ReadEntry) (g : ReadEntry) → find_read c rs ≡ Some g → (j : ℕ) × (nth rs j ≡ Some g) × (g.cell ≡ c)
 find_nth c [] g h = absurd (grind arith)
@@ -110,10 +104,7 @@ unwritten : (ops : List Op) (rs : List ReadEntry) (ws : List WriteEntry) (c : �
 unwritten ops rs ws c a none l = grind (arith, nat_tests, ops_leave, unwritten_value)
 
 pub local_known : (ops : List Op) (rs : List ReadEntry) (ws : List WriteEntry) (c : ℕ) (g : ReadEntry) → find_write c ws ≡ None → find_read c rs ≡ Some g → Local ops rs ws → Local (reads c g.value ∷ ops) rs ws
-local_known ops rs ws c g none known l = let f = find_nth c rs g known in record {
-  fits = grind (arith, nat_tests, unwritten);
-  last = l.last;
-}
+local_known ops rs ws c g none known l = grind (arith, nat_tests, find_nth, unwritten)
 
 pub local_read : (ops : List Op) (rs : List ReadEntry) (ws : List WriteEntry) (g : ReadEntry) → find_write g.cell ws ≡ None → Local ops rs ws → Local (reads g.cell g.value ∷ ops) (rs ++ (g ∷ [])) ws
 local_read ops rs ws g none l = record {

@@ -1,5 +1,5 @@
 -- A running pass goes on, and nothing else does: what is left to show.
-use Rattle.std.proofs.Common.{◌≡◌, ℕ, ◌+◌, ◌<◌, ◌≤◌, true, false, ◌⊎◌, Some, None, Option, ◌∙◌, subst, ⊎_elim, arith}
+use Rattle.std.proofs.Common.{◌≡◌, ℕ, ◌+◌, ◌<◌, ◌≤◌, false, ◌⊎◌, Some, None, Option, ◌∙◌, subst, ⊎_elim, arith}
 use Rattle.std.proofs.lemmas.Bool.{cases_eq}
 use Rattle.std.proofs.lemmas.Bool.Decides.{nat_tests}
 use Rattle.words.specs.declared.version.Version.{Version}
@@ -64,6 +64,3 @@ module _ (s : State) (t : ℕ) (P : Progress) (at : ℕ → ℕ → Option Versi
     full = grind (arith);
     line_below = grind (arith);
   }
-    where
-      clash : (Q : Progress) → Q ≡ P → Q.ended ≡ true → ⊥
-      clash Q e h = cc

@@ -1,5 +1,5 @@
 -- What stays recorded of committed passes and of the reads of looks while passes run.
-use Rattle.std.proofs.Common.{◌≡◌, ℕ, ◌+◌, ◌<◌, false, List, [], ◌∷◌, Some, None, Option, refl, subst, ⊎_elim, arith}
+use Rattle.std.proofs.Common.{◌≡◌, ℕ, ◌+◌, ◌<◌, List, [], ◌∷◌, Some, None, Option, refl, subst, ⊎_elim, arith}
 use Rattle.std.proofs.lemmas.Bool.{cases_eq}
 use Rattle.std.proofs.lemmas.Bool.Decides.{nat_tests}
 use Rattle.words.specs.declared.version.Version.{Version}
@@ -9,10 +9,10 @@ use Rattle.law.specs.Plain.{Op, Pass}
 use Rattle.law.specs.History.{Glance}
 use Rattle.law.proofs.State.{Progress, State, committed, Runs}
 use Rattle.law.proofs.Prefixes.{some_same}
-use Rattle.law.proofs.Moves.{put_cases, not_ended, moved, pass_moved}
+use Rattle.law.proofs.Moves.{put_cases, not_ended}
 use Rattle.law.proofs.Cuts.{with_versions}
 use Rattle.law.proofs.Ends.{full_of, left}
-use Rattle.law.proofs.Newest.{on, on_sorted, strict_wider, strict_placed}
+use Rattle.law.proofs.Newest.{on_sorted, strict_wider, strict_placed}
 use Rattle.law.proofs.Serial.{Local, Recorded}
 use Rattle.law.proofs.Good.{AllGlanced}
 
@@ -34,22 +34,8 @@ glanced_same m s s' w within same (g ∷ gs) (a, rest) = (
 pub recorded_versions : (s : State) (at : ℕ → ℕ → Option Version) (ps : List Pass) → Recorded s ps → Recorded (with_versions s at) ps
 recorded_versions s at ps r = grind (arith)
 
--- a running pass goes on
-module _ (s : State) (t : ℕ) (P : Progress) (at : ℕ → ℕ → Option Version) (pos : 0 < t) (running : P.ended ≡ false) (before : (O : Progress) → s.pass t ≡ Some O → O.ended ≡ false) where
-  pub recorded_moved : (ps : List Pass) → Recorded s ps → Recorded (moved s t P at) ps
-  recorded_moved ps r = record {
-    bound = r.bound;
-    positive = r.positive;
-    sorted = r.sorted;
-    here = λ u p e. let q = r.here u p e in (q.0, grind (arith, nat_tests, before), q.2, q.3);
-    there = grind (arith, nat_tests, pass_moved);
-  }
-
 -- a running pass ends
 module _ (s : State) (t : ℕ) (P : Progress) (runs : Runs s t P) (at : ℕ → ℕ → Option Version) (ps : List Pass) (r : Recorded s ps) where
-  none_on : on t ps ≡ None
-  none_on = grind (arith, nat_tests, not_ended)
-
   pub recorded_aborted : Recorded (left s t None at) ps
   recorded_aborted = record {
     bound = r.bound;

@@ -29,12 +29,7 @@ pub record Stands (workers cells : ℕ) (es : List Event) (t : Table) (m : Model
   pub cells_are : m.cells ≡ cells
 
 pub run_stands : (workers cells : ℕ) (es : List Event) (t : Table) (m : Model) → Run workers cells es t m → Stands workers cells es t m
-run_stands workers cells es t m (made clear size is) = record {
-  good = grind (arith, nat_tests, first_good);
-  tied = grind (arith);
-  workers_are = ap (λ (m : Model). m.workers) is;
-  cells_are = ap (λ (m : Model). m.cells) is;
-}
+run_stands workers cells es t m (made clear size is) = grind (arith, nat_tests, first_good)
 run_stands workers cells es t m (more {es = es₀} {t = t₀} {m = m₀} call answer run is steps) =
     let before = run_stands workers cells es₀ t₀ m₀ run in
     let sizes = sizes_stay t₀.free m₀ call in

@@ -31,9 +31,6 @@ abbrev pub Chosen : ℕ → List Pass → List Pass → Type 0
 Chosen f ps qs = (t : ℕ) → on t qs ≡ cond (ltb t f) (on t ps) None
 
 module _ (s : State) (line : ℕ) (inv : Inv s line) (ps : List Pass) (recorded : Recorded s ps) where
-  none_at_zero : on 0 ps ≡ None
-  none_at_zero = grind (arith)
-
   -- what passes wrote is what is committed
   pub wrote_committed : (c t : ℕ) → 0 < t → wrote (on t ps) c ≡ committed s c t
   wrote_committed c t pos = grind (arith)

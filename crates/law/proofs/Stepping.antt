@@ -23,7 +23,7 @@ use Rattle.law.proofs.Prefixes.{some_same, nth_short}
 use Rattle.law.proofs.Searches.{Finds}
 use Rattle.law.proofs.Cross.{cross_read, cross_write}
 use Rattle.tables.proofs.Lengths.{put_other}
-use Rattle.law.proofs.Moves.{moved, positive}
+use Rattle.law.proofs.Moves.{moved}
 use Rattle.law.proofs.Goes.{Same, stays, goes}
 use Rattle.law.proofs.Installs.{installs}
 use Rattle.law.proofs.Good.{running, state, InPass, Good, puts, leaves, keeps}
@@ -49,12 +49,6 @@ module _ (m : Model) (h : History) (good : Good m h) (w : ℕ) (within : w < m.w
 
   here : InPass t good.pass rs ws k true (h.doing w)
   here = doing_in m h good w within (sealed rs ws k) was
-
-  pos : 0 < t
-  pos = positive s (keep_line m) good.inv t P here.runs
-
-  before : (O : Progress) → good.pass t ≡ Some O → O.ended ≡ false
-  before O e = grind (arith)
 
   -- the versions of a step: they were there, or are the pass's own
   abbrev OldOrOwn : ℕ → List Version → Type 0

@@ -1,4 +1,5 @@
-// The scan, played on any table.
+// The scan, played on any table. Console and table travel as two parameters: of a struct that holds both, over
+// the chained table, the checker says that its reference "would stand at several lifetimes at once".
 use crate::report::{Told, print_list};
 use crate::scan::{CLEARING, READINGS, REFUSALS, UPKEEP, filling};
 use std::io;
