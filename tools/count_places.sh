@@ -1,7 +1,7 @@
 #!/bin/sh
 # Counts, in the sources of a checkout, the places that docs/DESIGN-PASS.md speaks of, a line for each count.
 # Run it at the top of the checkout. What a pattern finds is read before it is called a place.
-show() { printf '%-34s %s\n' "$1" "$(printf '%s' "$2" | grep -c .)"; }
+show() { printf '%-36s %s\n' "$1" "$(printf '%s' "$2" | grep -c .)"; }
 src() { grep -rnE "$1" crates/*/src --include='*.rt'; }
 
 show '1 errors matched to be passed on' "$(src 'Err\([a-z]+\) => (return )?Err\([a-z]+\)')"
@@ -20,5 +20,5 @@ show '5 seats travelling' "$(src 'seat: Seat')"
 show '6 fields len, used, count' "$(src '^ *(pub(\(crate\))? )?(len|cells|used|count|free_count): u')"
 show '7 matches on a call beside a state' "$(src 'match \(self')"
 show '8 answers' "$(grep -rhE '^pub ' crates/*/proofs --include='Answers.antt')"
-show '8 lines of proofs' "$(find crates/*/proofs -name '*.antt' -exec cat {} +)"
-show '8 lines of src' "$(find crates/*/src -name '*.rt' -exec cat {} +)"
+show '8 lines of proofs, none blank' "$(find crates/*/proofs -name '*.antt' -exec cat {} +)"
+show '8 lines of src, none blank' "$(find crates/*/src -name '*.rt' -exec cat {} +)"

@@ -18,7 +18,7 @@ pub(crate) struct Chain<'a> {
 }
 
 // Between which records of a chain a stamp has its place.
-#[derive(Clone, Copy)]
+#[derive(Clone, Copy, Debug, PartialEq, Eq)]
 pub(crate) struct Place {
     pub(crate) newer: Option<usize>,
     pub(crate) older: Option<usize>,

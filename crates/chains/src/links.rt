@@ -9,7 +9,7 @@ use crate::record::Record;
 use words::Version;
 
 // The first `cells` heads and the first `used` records are used; `free` is the first free record,
-// and `free_count` of them are free. A link is an index, since the memory is lent and fixed. Both
+// and `free_count` of them are free, counted so that no question walks them. A link is an index, since the memory is lent and fixed. Both
 // slices are held whole, so that the promises can say that what is not used stays as it was.
 #[derive(Drop)]
 pub(crate) struct Links<'a> {
@@ -23,7 +23,8 @@ pub(crate) struct Links<'a> {
 
 impl<'a> Links<'a> {
     // Rewrites the record at `at`, and leads the cell's chain, behind `newer`, to `to`. Cell and `newer` are two
-    // parameters, and no link: a link would not name the chain that the promises speak of.
+    // parameters, and no link: a link would not name the chain that the promises speak of. Each move
+    // asks that what it touches is there (`Touches`), since the memory by itself promises nothing.
     fn relink(
         &mut self,
         cell: usize,

@@ -2,11 +2,11 @@
 ghost use Rattle.std.specs.Prelude.{◌≡◌};
 ghost use Rattle.chains.specs.Chain.{blank};
 
-use words::{Status, Version};
+use words::Version;
 
 // A version and the position of the next older one of its cell; or, in a free record, the position
 // of the next free one.
-#[derive(Clone, Copy)]
+#[derive(Clone, Copy, Debug, PartialEq, Eq)]
 pub struct Record {
     pub(crate) version: Version,
     pub(crate) next: Option<usize>,
@@ -17,14 +17,8 @@ impl Record {
     pub fn blank() -> Record
         ensures { result ≡ blank }
     {
-        let version = Version {
-            write: 0,
-            read: 0,
-            status: Status::Pending,
-            value: 0,
-        };
         Record {
-            version,
+            version: Version::pending(0, 0),
             next: None,
         }
     }

@@ -12,19 +12,19 @@ use Rattle.law.proofs.Searches.{Finds, Lacks}
 
 -- a committed write under a stamp above 0 is a pass's, and a pass's is committed
 pub by_pass : (s : State) (c t v : ℕ) → committed s c t ≡ Some v → 0 < t → (P : Progress) × (s.pass t ≡ Some P) × (P.ended ≡ true) × (value_in P.writes c ≡ Some v)
-by_pass s c t v h pos = grind (arith)
+by_pass s c t v h pos = grind arith
 
 pub of_pass : (s : State) (c t v : ℕ) (P : Progress) → s.pass t ≡ Some P → s.pass 0 ≡ None → P.ended ≡ true → value_in P.writes c ≡ Some v → committed s c t ≡ Some v
-of_pass s c t v P e zero done h = grind (arith)
+of_pass s c t v P e zero done h = grind arith
 
 module _ (s : State) (line : ℕ) (inv : Inv s line) where
   -- below a stamp that the keep line is not above, a committed write is covered
   pub cover : (c w v t : ℕ) → committed s c w ≡ Some v → w < t → line ≤ t → (u : ℕ) × Stands s c u × (w ≤ u) × (u < t)
-  cover c w v t h lt le = grind (arith)
+  cover c w v t h lt le = grind arith
 
   -- so what a search below t finds is no older
   pub found_after : (c w v t : ℕ) (x : Version) → committed s c w ≡ Some v → w < t → line ≤ t → Finds (λ g. g ≡ Aborted) t (s.at c) x → w ≤ x.write
-  found_after c w v t x h lt le found = grind (arith)
+  found_after c w v t x h lt le found = grind arith
 
   -- the check of a read
   pub cross_read : (t : ℕ) → line ≤ t → (g : ReadEntry) (x : Version) → Finds (λ z. z ≡ Aborted) t (s.at g.cell) x → x.write ≡ g.stamp
@@ -61,9 +61,9 @@ module _ (s : State) (line : ℕ) (inv : Inv s line) where
   -- a search below a stamp that the keep line is not above always meets a version that counts
   pub never_lacks : (c f : ℕ) → c < s.cells → 0 < f → line ≤ f → Lacks (λ g. g ≡ Aborted) f (s.at c) → ⊥
   never_lacks c f in' pos le none =
-      let a = cover c 0 0 f (grind (arith)) pos le in
+      let a = cover c 0 0 f (grind arith) pos le in
       let z = none a.0 a.1.0 a.1.1 a.3 in cc
 
   -- a pending version's stamp is that of a pass that runs and has done a step
   pub pending_runs : (c t : ℕ) (x : Version) → s.at c t ≡ Some x → x.status ≡ Pending → (P : Progress) × Runs s t P × (0 < P.k)
-  pending_runs c t x h still = grind (arith)
+  pending_runs c t x h still = grind arith

@@ -11,24 +11,24 @@ with_versions s at = record { cells = s.cells; pass = s.pass; at = at }
 module _ (s : State) (line : ℕ) (inv : Inv s line) (c w : ℕ) (stands : Stands s c w) (low : w < line)
     (at : ℕ → ℕ → Option Version) (cut : (d u : ℕ) → at d u ≡ cond (eqb c d && ltb u w) None (s.at d u)) where
   back : (d u : ℕ) (x : Version) → at d u ≡ Some x → s.at d u ≡ Some x
-  back d u x h = let z = cut d u in grind (arith)
+  back d u x h = let z = cut d u in grind arith
 
   -- a committed version stays, or that at which the cut was made is newer
   stays : (d u : ℕ) → Stands s d u → Stands (with_versions s at) d u ⊎ ((u < w) × Stands (with_versions s at) d w)
-  stays d u (x, h, done) = grind (arith)
+  stays d u (x, h, done) = grind arith
 
   pub collects : Inv (with_versions s at) line
   collects = record {
     agrees = record {
       stands = λ d u x h. inv.agrees.stands d u x (back d u x h);
       owned = λ d u x h. inv.agrees.owned d u x (back d u x h);
-      there = grind (arith);
-      missing = grind (arith);
+      there = grind arith;
+      missing = grind arith;
       covered = λ d u v h. ⊎_elim
           (λ a. ⊎_elim (λ b. inl b) (λ b. inr (w, b.1, b.0, low)) (stays d u a))
           (λ a. ⊎_elim (λ b. inr (a.0, b, a.2, a.3)) (λ b. inr (w, b.1, omega arith, low)) (stays d a.0 a.1))
           (inv.agrees.covered d u v h);
-      stamped = grind (arith);
+      stamped = grind arith;
     };
     zero = inv.zero;
     apart = inv.apart;

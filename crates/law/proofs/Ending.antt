@@ -1,7 +1,6 @@
 -- commit and abort: the worker is idle, and every version of its pass has ended.
-use Rattle.std.proofs.Common.{◌≡◌, ℕ, zero, suc, ◌-◌, ◌<◌, Bool, true, false, cond, ◌&&◌, eqb, List, [], ◌∷◌, take, is_some, Some, None, Option, sym, refl, ap, ◌∙◌, subst, inl, ⊎_elim, arith}
+use Rattle.std.proofs.Common.{◌≡◌, ℕ, zero, suc, ◌-◌, ◌<◌, Bool, true, false, cond, eqb, List, [], ◌∷◌, take, Some, None, Option, sym, refl, ap, ◌∙◌, subst, inl, arith}
 use Rattle.std.proofs.lemmas.List.{take_all}
-use Rattle.std.proofs.lemmas.Bool.{cases_eq}
 use Rattle.std.proofs.lemmas.Bool.Decides.{nat_tests}
 use Rattle.words.specs.declared.status.Ending.{Ending}
 use Rattle.words.specs.declared.status.Ending.TheVariants.{Commit as Commits', Abort as Aborts'}
@@ -19,7 +18,6 @@ use Rattle.law.specs.Plain.{Pass}
 use Rattle.law.specs.History.{nothing, History, now_doing, with_pass, has_committed}
 use Rattle.law.proofs.Under.{under, change}
 use Rattle.law.proofs.State.{Progress, State, Apart, value_in, Inv}
-use Rattle.law.proofs.Prefixes.{some_same}
 use Rattle.tables.proofs.Lengths.{put_here, put_other}
 use Rattle.law.proofs.Ends.{full_of, left, committed_left, commits, aborts}
 use Rattle.law.proofs.Marks.{Markable, all_marked}
@@ -53,7 +51,7 @@ marks_fall how cells t (e ∷ es) ls h c = marks_fall how cells t es (ended_one 
     one d =
         let a = h d in
         let b = each_list (λ _ vs. falls vs ≡ true) ls e.cell (at_stamp t (marked how) (ls e.cell)) (falls_at_stamp t (marked how) (λ v. refl) (ls e.cell) (h e.cell)) h d in
-        grind (arith)
+        grind arith
 
 module _ (m : Model) (h : History) (good : Good m h) (w : ℕ) (within : w < m.workers)
     (rs : List ReadEntry) (ws : List WriteEntry) (k : ℕ) (shut : Bool) (here : InPass (last_stamp m w) good.pass rs ws k shut (h.doing w)) where
@@ -69,21 +67,13 @@ module _ (m : Model) (h : History) (good : Good m h) (w : ℕ) (within : w < m.w
   -- the marks of what is installed reach every version of the pass
   ended_versions : (how : Ending) (vs : List WriteEntry) → vs ≡ take k ws
       → (c u : ℕ) → under u (ended_all how m.cells (last_stamp m w) m.lists vs c) ≡ cond (eqb (last_stamp m w) u) (change (marked how) (under u (m.lists c))) (under u (m.lists c))
-  ended_versions how vs part c u = by (value_in (take k ws) c) refl
-      (subst (λ vs. under u (ended_all how m.cells t m.lists vs c) ≡ cond (eqb t u && is_some (value_in vs c)) (change (marked how) (under u (m.lists c))) (under u (m.lists c))) part
-      (all_marked how m.cells t vs m.lists (subst Apart (sym part) (apart_part k ws (good.inv.apart t P here.runs))) (λ d v e. able d v (subst (λ vs. value_in vs d ≡ Some v) part e)) c u))
+  ended_versions how vs part c u =
+      let a = all_marked how m.cells t (take k ws) m.lists (apart_part k ws (good.inv.apart t P here.runs)) able c u in
+      let n = good.inv.agrees.missing t P c (here.runs, refl) in
+      rw part (grind (arith, nat_tests))
     where
       able : Markable m.cells (last_stamp m w) m.lists (take k ws)
       able d v e = let x = good.inv.agrees.there t P d v (here.runs, refl) e in grind (arith, nat_tests)
-
-      by : (o : Option ℕ) → value_in (take k ws) c ≡ o → under u (ended_all how m.cells t m.lists (take k ws) c) ≡ cond (eqb t u && is_some (value_in (take k ws) c)) (change (marked how) (under u (m.lists c))) (under u (m.lists c))
-          → under u (ended_all how m.cells t m.lists vs c) ≡ cond (eqb t u) (change (marked how) (under u (m.lists c))) (under u (m.lists c))
-      by (Some v) i e = grind (arith)
-      by None i e = subst (λ vs. under u (ended_all how m.cells t m.lists vs c) ≡ cond (eqb t u) (change (marked how) (under u (m.lists c))) (under u (m.lists c))) (sym part)
-          (e ∙ (let n = good.inv.agrees.missing t P c (here.runs, refl) i in ⊎_elim
-          (λ (q : last_stamp m w ≡ u). let n' = subst (λ u. under u (m.lists c) ≡ None) q n in grind (arith))
-          (λ (q : last_stamp m w ≡ u → ⊥). grind (arith))
-          (cases_eq (last_stamp m w) u)))
 
   -- the worker is idle, with the boost b; the lists are those with the marks
   ending : (how : Ending) (vs : List WriteEntry) → vs ≡ take k ws → (b n : ℕ) (next : Option Progress) (ps : List Pass)
@@ -131,7 +121,7 @@ module _ (m : Model) (h : History) (good : Good m h) (w : ℕ) (within : w < m.w
   pub committing : k ≡ steps rs ws → Good (committed m w ws) (has_committed h w)
   committing all = subst (λ ps. Good (committed m w ws) (record { doing = put h.doing w nothing; last = h.last; passes = ps; glances = h.glances })) (sym (ap (λ d. with_pass d h.passes) here.is))
       (ending Commits' ws whole 0 _ (Some (full_of P)) (record { stamp = t; ops = here.ops } ∷ h.passes)
-      (λ Q e r. absurd (let z = ap (λ (o : Progress). o.ended) (some_same (full_of P) Q e) in cc))
+      (λ Q e r. cc)
       (commits s (keep_line m) good.inv t P (here.runs, refl) _ all (ended_versions Commits' ws whole))
       (recorded_committed s t P (here.runs, refl) _ h.passes good.recorded here.ops here.local))
     where

@@ -13,7 +13,7 @@ use Rattle.law.proofs.Good.{state, Good}
 
 -- the one version of a cleared cell
 only_first : (cells c t : ℕ) (x : Version) → under t (cleared cells c) ≡ Some x → (c < cells) × (t ≡ 0) × (x ≡ first_version)
-only_first cells c t x e = grind (arith)
+only_first cells c t x e = grind arith
 
 module _ (workers cells : ℕ) where
   abbrev m : Model
@@ -23,13 +23,13 @@ module _ (workers cells : ℕ) where
   s = state m (λ t. None)
 
   first_stands : (c w v : ℕ) → committed s c w ≡ Some v → Stands s c w
-  first_stands c w v e = (first_version, grind (arith), refl)
+  first_stands c w v e = (first_version, grind arith, refl)
 
   first_inv : (line : ℕ) → Inv s line
   first_inv line = grind (arith, nat_tests, first_stands)
 
   first_recorded : Recorded s []
-  first_recorded = grind (arith)
+  first_recorded = grind arith
 
   pub first_good : Good (new_map workers cells) no_history
   first_good = grind (arith, nat_tests, first_inv, only_first, first_recorded)

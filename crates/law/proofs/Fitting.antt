@@ -13,7 +13,7 @@ abbrev pub Fit : List Version → Type 0
 Fit vs = (t : ℕ) (x : Version) → under t vs ≡ Some x → t < top
 
 first_fits : (v : Version) (vs : List Version) → Fit (v ∷ vs) → v.write < top
-first_fits v vs fit = fit v.write v (grind (arith))
+first_fits v vs fit = fit v.write v (grind arith)
 
 pub fit_reached : (vs : List Version) → falls vs ≡ true → Fit vs → reach vs ≡ vs
 fit_reached [] h fit = refl
@@ -21,7 +21,7 @@ fit_reached (v ∷ vs) h fit = take_all (2 ^ 64) (v ∷ vs) (let r = length_boun
 
 pub newest_fitting : (vs : List Version) → falls vs ≡ true → Fit vs → newest vs ≡ newest_below top vs
 newest_fitting [] h fit = refl
-newest_fitting (v ∷ vs) h fit = newest_bounded top (v ∷ vs) (let z = first_fits v vs fit in grind (arith))
+newest_fitting (v ∷ vs) h fit = newest_bounded top (v ∷ vs) (let z = first_fits v vs fit in grind arith)
 
 -- a search for the newest is refused as NO VERSION alone
 pub newest_refuses : (s : ℕ) (vs : List Version) (n d : ℕ) → newest_below s vs ≡ refused n d → n ≡ 9

@@ -18,7 +18,7 @@ use Rattle.law.proofs.Good.{state, Good}
 module _ (m : Model) (h : History) (good : Good m h) where
   -- a version's stamp is far below 2^64
   pub fitting : (c : ℕ) → Fit (m.lists c)
-  fitting c t x e = grind (arith)
+  fitting c t x e = grind arith
 
   all_seen : (c : ℕ) → reach (m.lists c) ≡ m.lists c
   all_seen c = fit_reached (m.lists c) (good.falling c) (fitting c)

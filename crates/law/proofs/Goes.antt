@@ -24,8 +24,8 @@ pub record Rises (at at' : ℕ → ℕ → Option Version) : Type 0 where
 
 pub stays : (at : ℕ → ℕ → Option Version) → Rises at at
 stays at = record {
-  back = grind (arith);
-  on = grind (arith);
+  back = grind arith;
+  on = grind arith;
 }
 
 -- one more step done
@@ -44,14 +44,14 @@ module _ (s : State) (line : ℕ) (inv : Inv s line) (t : ℕ) (P : Progress) (r
 
   goes_agrees : ((j : ℕ) (g : ReadEntry) (y : Version) → nth P.reads j ≡ Some g → W P + j ≡ P.k → at g.cell g.stamp ≡ Some y → t ≤ y.read) → Agrees (moved s t (stepped P) at) line
   goes_agrees fresh = record {
-    stands = grind (arith);
+    stands = grind arith;
     owned = λ c u y h e. let x = rises.back c u y h in
         subst (λ v. (O : Progress) × Runs (moved s t (stepped P) at) u O × (installed O c ≡ Some v)) (sym x.2.value)
         (owned_moved s t (stepped P) at pos refl before c u x.0.value (inv.agrees.owned c u x.0 x.1 (sym x.2.status ∙ e)) (λ O q i. let z = one_pass s t P O runs.0 q in same_installed c ∙ ap (λ (z : Progress). installed z c) (sym z) ∙ i));
     there = grind (arith, nat_tests, was);
     missing = λ u Q c r i. no_version c u (gone u Q c r i);
-    covered = grind (arith);
-    stamped = grind (arith);
+    covered = grind arith;
+    stamped = grind arith;
   }
     where
       was : (u : ℕ) (Q : Progress) (c v : ℕ) → Runs (moved s t (stepped P) at) u Q → installed Q c ≡ Some v → (x : Version) × (s.at c u ≡ Some x) × (x.status ≡ Pending) × (x.value ≡ v)
@@ -61,7 +61,7 @@ module _ (s : State) (line : ℕ) (inv : Inv s line) (t : ℕ) (P : Progress) (r
       gone u Q c r i = grind (arith, nat_tests, same_installed)
 
       no_version : (c u : ℕ) → s.at c u ≡ None → at c u ≡ None
-      no_version c u h = grind (arith)
+      no_version c u h = grind arith
 
   -- a step keeps the invariant, if what it checks crosses nothing
   pub goes : ((j : ℕ) (g : ReadEntry) (y : Version) → nth P.reads j ≡ Some g → W P + j ≡ P.k → at g.cell g.stamp ≡ Some y → t ≤ y.read)

@@ -136,10 +136,10 @@ module _ (m : Model) (h : History) (good : Good m h) (m' : Model) (h' : History)
 
   -- another worker's timestamp
   apart : (v a : ℕ) → v < m.workers → (v ≡ w → ⊥) → timestamp a v ≡ timestamp x.last w → ⊥
-  apart v a l n e = grind (arith)
+  apart v a l n e = grind arith
 
   outside_still : (v : ℕ) → m'.workers ≤ v → (m'.worker v).stage ≡ idle
-  outside_still v le = grind (arith)
+  outside_still v le = grind arith
 
   look_over : (v f : ℕ) → (m'.worker v).stage ≡ looking f → (keep_line m ≤ f) × (0 < f) × ((v : ℕ) → v < m.workers → f ≤ last_stamp m v)
   look_over v f e = grind (arith, nat_tests, line_look)
@@ -148,17 +148,17 @@ module _ (m : Model) (h : History) (good : Good m h) (m' : Model) (h' : History)
   whose_still u P is runs = ⊎_elim
       (λ (e : u ≡ timestamp x.last w). record {
         worker = w;
-        within = grind (arith);
+        within = grind arith;
         is = e ∙ sym stamp_now;
-        view = grind (arith);
+        view = grind arith;
       })
       (λ (n : u ≡ timestamp x.last w → ⊥). let o = good.whose u P (sym (change.elsewhere u n) ∙ is) runs in
       let other : o.worker ≡ w → ⊥ = λ (q : o.worker ≡ w). n (o.is ∙ subst (λ v. last_stamp m v ≡ timestamp x.last w) (sym q) (ap (λ a. timestamp a w) (change.same P (subst (λ v. View (m.worker v).stage P) q o.view)))) in
       record {
         worker = o.worker;
-        within = let a = change.workers in let b = o.within in omega arith;
-        is = grind (arith);
-        view = grind (arith);
+        within = grind arith;
+        is = grind arith;
+        view = grind arith;
       })
       (cases_eq u (timestamp x.last w))
 
@@ -171,49 +171,37 @@ module _ (m : Model) (h : History) (good : Good m h) (m' : Model) (h' : History)
       (λ u P r. let o = whose_still u P r.0 r.1 in let l = line_lower m' (let a = change.workers in let b = good.some in omega arith) o.worker o.within in let e = o.is in omega arith)
 
   does_apart : (g : Stage) (t : ℕ) → (t ≡ timestamp x.last w → ⊥) ⊎ (g ≡ idle) → (e : Doing) → Does g t good.pass e → Does g t pass e
-  does_apart idle t n e o = o
-  does_apart (open' rs ws) t n e o = grind (arith)
-  does_apart (sealed rs ws k) t n e o = grind (arith)
-  does_apart (looking f) t n e o = o
+  does_apart g t n e o = grind arith
 
   does_still : (v : ℕ) → Does (m'.worker v).stage (last_stamp m' v) pass (h'.doing v)
   does_still v = grind (arith, nat_tests, apart, does_apart, cases_lt v m.workers, cases_eq v w)
 
   last_still : (v : ℕ) → h'.last v ≡ last_stamp m' v
-  last_still v = grind (arith)
+  last_still v = grind arith
 
   clocks_still : (v : ℕ) → (1 ≤ (m'.worker v).last) × ((m'.worker v).last ≤ last_clock)
-  clocks_still v = grind (arith)
+  clocks_still v = grind arith
 
   glances_on : (gs : List Glance) → AllGlanced m (state m' pass) gs → AllGlanced m' (state m' pass) gs
   glances_on [] a = tt
-  glances_on (g ∷ gs) (a, rest) = (
-    record {
-      from = a.from;
-      is = a.is;
-      below = a.below;
-      newest = a.newest;
-      under = grind (arith);
-    },
-    glances_on gs rest,
-  )
+  glances_on (g ∷ gs) (a, rest) = (grind arith, glances_on gs rest)
 
   pub keeps : Good m' h'
   keeps = record {
-    some = grind (arith);
-    few = let a = change.workers in let b = good.few in omega arith;
+    some = grind arith;
+    few = grind arith;
     pass = pass;
     inv = inv_on;
     falling = change.falling;
     inside = change.inside;
-    seen = grind (arith);
-    known = grind (arith);
+    seen = grind arith;
+    known = grind arith;
     whose = whose_still;
     does = does_still;
     outside = outside_still;
     last = last_still;
     clocks = clocks_still;
-    looks = grind (arith);
+    looks = grind arith;
     recorded = change.recorded;
     glances = glances_on h'.glances change.glances;
   }

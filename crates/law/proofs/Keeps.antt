@@ -20,11 +20,10 @@ use Rattle.law.proofs.Looking.{looks_at, collecting}
 module _ (m : Model) (h : History) (good : Good m h) where
   -- a read of an open pass is told as its operation, and not as a read of a look
   told : (w c v : ℕ) (rs : List ReadEntry) (ws : List WriteEntry) → w < m.workers → (m.worker w).stage ≡ open' rs ws → (m' : Model) → Good m' (now_doing h w (with_op (reads c v) (h.doing w))) → Good m' (has_read h w c v)
-  told w c v rs ws within was m' g = grind (arith)
+  told w c v rs ws within was m' g = grind arith
 
   pub call_keeps : (free : ℕ → ℕ) (call : Call) → Good (outcome free m call).1 (told_with call (outcome free m call).0 h)
-  call_keeps free = every_way free m (λ call done. Good done.1 (told_with call done.0 h)) (record {
-    refuses = λ call n d why. good;
+  call_keeps free = every_way free m (λ call done. Good done.1 (told_with call done.0 h)) (λ call n d why. good) (record {
     begins = λ w units l was low. begins m h good w l units was low;
     pulses = λ w units l was low. pulses m h good w l units was low;
     syncs = λ w o l _. syncs m h good w l (max (m.worker w).clock (m.worker o).clock);

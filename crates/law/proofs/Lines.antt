@@ -7,7 +7,7 @@ use Rattle.rules.specs.Model.{Stage, idle, open', sealed, looking, Model}
 use Rattle.rules.specs.Stamps.{last_stamp, least, floor, look_floor, keep_line}
 
 least_lower : (f : ℕ → ℕ) (n j : ℕ) → j ≤ n → least f n ≤ f j
-least_lower f zero j h = grind (arith)
+least_lower f zero j h = grind arith
 least_lower f (suc n) j h = ⊎_elim
     (λ (e : j ≡ suc n). subst (λ j. least f (suc n) ≤ f j) (sym e) (omega arith))
     (λ d. let r = least_lower f n j (omega arith) in omega arith)

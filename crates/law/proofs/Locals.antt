@@ -1,12 +1,11 @@
 -- An open pass: its operations beside its sets, read by read and write by write.
-use Rattle.std.proofs.Common.{◌≡◌, ℕ, zero, suc, ◌-◌, Bool, true, false, cond, eqb, ◌⊎◌, List, [], ◌∷◌, ◌++◌, length, take, Some, None, Option, sym, refl, ap, ◌∙◌, inl, inr, ⊎_elim, arith, eqb-true}
+use Rattle.std.proofs.Common.{◌≡◌, ℕ, zero, suc, ◌-◌, Bool, true, false, cond, eqb, ◌⊎◌, List, [], ◌∷◌, ◌++◌, length, take, Some, None, Option, sym, refl, ap, ◌∙◌, inl, inr, ⊎_elim, arith}
 use Rattle.std.proofs.lemmas.Bool.{cases_Bool}
 use Rattle.std.proofs.lemmas.Bool.Decides.{nat_tests}
 use Rattle.rules.specs.declared.entry.ReadEntry.{ReadEntry}
 use Rattle.rules.specs.declared.entry.WriteEntry.{WriteEntry}
 use Rattle.rules.specs.Sets.{find_read, find_write, replaced, nth}
 use Rattle.law.specs.Plain.{Op, reads, writes, after_ops}
-use Rattle.law.proofs.Prefixes.{some_same}
 use Rattle.law.proofs.State.{value_in, Apart}
 use Rattle.law.proofs.Newest.{ops_leave}
 use Rattle.law.proofs.Serial.{Local}
@@ -25,22 +24,22 @@ unwritten_value c ws none = value_found c ws ∙ ap value_of none
 
 -- one more write, and one in the place of another
 pub value_added : (ws : List WriteEntry) (e : WriteEntry) (d : ℕ) → value_in ws e.cell ≡ None → value_in (ws ++ (e ∷ [])) d ≡ cond (eqb d e.cell) (Some e.value) (value_in ws d)
-value_added [] e d h = grind (arith)
+value_added [] e d h = grind arith
 value_added (f ∷ fs) e d h = grind (arith, nat_tests, value_added fs e d)
 
 pub value_replaced : (ws : List WriteEntry) (e : WriteEntry) (v d : ℕ) → value_in ws e.cell ≡ Some v → value_in (replaced e ws) d ≡ cond (eqb d e.cell) (Some e.value) (value_in ws d)
-value_replaced [] e v d h = grind (arith)
+value_replaced [] e v d h = grind arith
 value_replaced (f ∷ fs) e v d h = grind (arith, nat_tests, value_replaced fs e v d)
 
 -- an entry of a set with one more
 pub nth_added : {A : Type 0} (xs : List A) (y : A) (j : ℕ) (x : A) → nth (xs ++ (y ∷ [])) j ≡ Some x → ((nth xs j ≡ Some x) × (take j (xs ++ (y ∷ [])) ≡ take j xs)) ⊎ ((x ≡ y) × (take j (xs ++ (y ∷ [])) ≡ xs))
 nth_added [] y zero x h = inr (grind arith, refl)
-nth_added [] y (suc j) x h = absurd (grind (arith))
+nth_added [] y (suc j) x h = absurd (grind arith)
 nth_added (z ∷ zs) y zero x h = inl (h, refl)
 nth_added (z ∷ zs) y (suc j) x h = ⊎_elim
-    (λ a. inl (let p = a.0 in grind (arith), ap (λ l. z ∷ l) a.1))
+    (λ a. inl (let p = a.0 in grind arith, ap (λ l. z ∷ l) a.1))
     (λ a. inr (a.0, ap (λ l. z ∷ l) a.1))
-    (nth_added zs y j x (grind (arith)))
+    (nth_added zs y j x (grind arith))
 
 pub nth_front : {A : Type 0} (xs : List A) (y : A) (j : ℕ) (x : A) → nth xs j ≡ Some x → nth (xs ++ (y ∷ [])) j ≡ Some x
 nth_front [] y j x h = grind arith
@@ -48,7 +47,7 @@ nth_front (z ∷ zs) y j x h = grind (arith, nat_tests, nth_front zs y (j - 1) x
 
 pub nth_end : {A : Type 0} (xs : List A) (y : A) → nth (xs ++ (y ∷ [])) (length xs) ≡ Some y
 nth_end [] y = refl
-nth_end (z ∷ zs) y = let r = nth_end zs y in grind (arith)
+nth_end (z ∷ zs) y = let r = nth_end zs y in grind arith
 
 -- no cell comes twice
 pub apart_none : Apart []
@@ -62,10 +61,10 @@ replaced_nth [] e j f h = absurd (grind arith)
 replaced_nth (g ∷ gs) e j f h = by (eqb g.cell e.cell) refl (eqb j 0) refl (λ h'. replaced_nth gs e (j - 1) f h')
   where
     by : (b : Bool) → eqb g.cell e.cell ≡ b → (z : Bool) → eqb j 0 ≡ z → (nth (replaced e gs) (j - 1) ≡ Some f → (o : WriteEntry) × (nth gs (j - 1) ≡ Some o) × (o.cell ≡ f.cell)) → (o : WriteEntry) × (nth (g ∷ gs) j ≡ Some o) × (o.cell ≡ f.cell)
-    by true p true q ih = (g, grind arith, eqb-true g.cell e.cell p ∙ ap (λ (z : WriteEntry). z.cell) (some_same e f (grind arith)))
+    by true p true q ih = (g, grind arith, grind (arith, nat_tests))
     by true p false q ih = (f, grind arith, refl)
-    by false p true q ih = (g, grind arith, ap (λ (z : WriteEntry). z.cell) (some_same g f (grind arith)))
-    by false p false q ih = grind (arith)
+    by false p true q ih = (g, grind arith, grind arith)
+    by false p false q ih = grind arith
 
 replaced_part : (ws : List WriteEntry) (e : WriteEntry) (j d : ℕ) → value_in (take j ws) d ≡ None → value_in (take j (replaced e ws)) d ≡ None
 replaced_part [] e j d h = h
@@ -96,8 +95,8 @@ local_own ops rs ws c e own l = grind (arith, nat_tests, ops_leave, value_found)
 find_nth : (c : ℕ) (rs : List ReadEntry) (g : ReadEntry) → find_read c rs ≡ Some g → (j : ℕ) × (nth rs j ≡ Some g) × (g.cell ≡ c)
 find_nth c [] g h = absurd (grind arith)
 find_nth c (r ∷ rs) g h = ⊎_elim
-    (λ (b : eqb r.cell c ≡ true). (0, grind arith, ap (λ (z : ReadEntry). z.cell) (some_same g r (grind arith)) ∙ eqb-true r.cell c b))
-    (λ (b : eqb r.cell c ≡ false). let f = find_nth c rs g (grind arith) in (suc f.0, let z = f.1 in grind (arith), f.2))
+    (λ (b : eqb r.cell c ≡ true). (0, grind arith, grind (arith, nat_tests)))
+    (λ (b : eqb r.cell c ≡ false). let f = find_nth c rs g (grind arith) in (suc f.0, let z = f.1 in grind arith, f.2))
     (cases_Bool (eqb r.cell c))
 
 unwritten : (ops : List Op) (rs : List ReadEntry) (ws : List WriteEntry) (c : ℕ) (a : ℕ → ℕ) → find_write c ws ≡ None → Local ops rs ws → after_ops ops a c ≡ a c

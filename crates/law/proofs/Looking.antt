@@ -35,7 +35,7 @@ module _ (m : Model) (h : History) (good : Good m h) where
     last = leaves h.last w (last_stamp m w) (good.last w);
     later = omega arith;
     spent = (good.clocks w).1;
-    does = grind (arith);
+    does = grind arith;
     same = λ P e. refl;
     own = λ P e r. mine m h good w within P e r;
     elsewhere = λ u n. refl;

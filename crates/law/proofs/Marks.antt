@@ -18,7 +18,7 @@ value_nth : (ws : List WriteEntry) (c v : ℕ) → value_in ws c ≡ Some v → 
 value_nth [] c v h = absurd (grind arith)
 value_nth (e ∷ es) c v h = ⊎_elim
     (λ (b : eqb e.cell c ≡ true). (0, (e, refl, eqb-true e.cell c b)))
-    (λ (b : eqb e.cell c ≡ false). let r = value_nth es c v (grind arith) in (suc r.0, (r.1.0, let z = r.1.1 in grind (arith), r.1.2)))
+    (λ (b : eqb e.cell c ≡ false). let r = value_nth es c v (grind arith) in (suc r.0, (r.1.0, let z = r.1.1 in grind arith, r.1.2)))
     (cases_Bool (eqb e.cell c))
 
 -- no cell comes twice, entry by entry
@@ -29,11 +29,11 @@ apart_first e es apart = by (value_in es e.cell) refl
     by None h = refl
     by (Some v) h =
         let r = value_nth es e.cell v h in
-        let z = apart (suc r.0) r.1.0 (let y = r.1.1 in grind (arith)) in
-        let w = r.1.2 in absurd (grind (arith))
+        let z = apart (suc r.0) r.1.0 (let y = r.1.1 in grind arith) in
+        let w = r.1.2 in absurd (grind arith)
 
 apart_rest : (e : WriteEntry) (es : List WriteEntry) → Apart (e ∷ es) → Apart es
-apart_rest e es apart j f h = let z = apart (suc j) f (grind (arith)) in grind (arith)
+apart_rest e es apart j f h = let z = apart (suc j) f (grind arith) in grind arith
 
 -- what is to be marked: cells that are there, and their version of the stamp t pending
 abbrev pub Markable : ℕ → ℕ → (ℕ → List Version) → List WriteEntry → Type 0
@@ -52,7 +52,7 @@ module _ (how : Ending) (cells t : ℕ) where
   all_marked (e ∷ es) ls apart able c u = step (all_marked es (ended_one how cells t ls e) (apart_rest e es apart) later c u)
     where
       mine : (e.cell < cells) × ((x : Version) × (under t (ls e.cell) ≡ Some x) × (x.status ≡ Pending))
-      mine = able e.cell e.value (grind (arith))
+      mine = able e.cell e.value (grind arith)
 
       now : (d : ℕ) → ended_one how cells t ls e d ≡ put ls e.cell (at_stamp t (marked how) (ls e.cell)) d
       now d = one_marked ls e mine.1.0 mine.0 mine.1.1 mine.1.2 d
@@ -61,13 +61,13 @@ module _ (how : Ending) (cells t : ℕ) where
       alone = apart_first e es apart
 
       elsewhere : (d : ℕ) → (d ≡ e.cell → ⊥) → ended_one how cells t ls e d ≡ ls d
-      elsewhere d n = now d ∙ (grind (arith))
+      elsewhere d n = now d ∙ (grind arith)
 
       later : Markable cells t (ended_one how cells t ls e) es
       later d v h = ⊎_elim
           (λ (q : d ≡ e.cell). absurd (let z = alone in let y = subst (λ d. value_in es d ≡ Some v) q h in grind arith))
           (λ (n : d ≡ e.cell → ⊥).
-          let r = able d v (grind (arith)) in
+          let r = able d v (grind arith) in
           (r.0, (r.1.0, ap (under t) (elsewhere d n) ∙ r.1.1, r.1.2)))
           (cases_eq d e.cell)
 

@@ -10,11 +10,11 @@ use Rattle.law.proofs.State.{Progress, State, W, R, installed, checked, committe
 
 -- a changed function, at the place of the change and elsewhere
 pub put_cases : {A : Type 0} (f : ℕ → Option A) (t : ℕ) (o : Option A) (u : ℕ) (x : A) → put f t o u ≡ Some x → ((u ≡ t) × (o ≡ Some x)) ⊎ ((u ≡ t → ⊥) × (f u ≡ Some x))
-put_cases f t o u x h = grind (arith)
+put_cases f t o u x h = grind arith
 
 -- a pass is stamped above 0, and one stamp has one pass
 pub positive : (s : State) (line : ℕ) → Inv s line → (t : ℕ) (P : Progress) → s.pass t ≡ Some P → 0 < t
-positive s line inv t P h = grind (arith)
+positive s line inv t P h = grind arith
 
 pub one_pass : (s : State) (t : ℕ) (P O : Progress) → s.pass t ≡ Some P → s.pass t ≡ Some O → O ≡ P
 one_pass s t P O h e = cc
@@ -29,15 +29,15 @@ moved s t P at = record { cells = s.cells; pass = put s.pass t (Some P); at = at
 
 module _ (s : State) (t : ℕ) (P : Progress) (at : ℕ → ℕ → Option Version) (pos : 0 < t) (running : P.ended ≡ false) (before : (O : Progress) → s.pass t ≡ Some O → O.ended ≡ false) where
   none_yet : (c : ℕ) → committed_by (s.pass t) c ≡ None
-  none_yet c = grind (arith)
+  none_yet c = grind arith
 
   -- nothing is committed by it
   pub committed_moved : (c w : ℕ) → committed (moved s t P at) c w ≡ committed s c w
-  committed_moved c w = let n = none_yet c in grind (arith)
+  committed_moved c w = let n = none_yet c in grind arith
 
   -- a pass afterwards is P, or was there before
   pub pass_moved : (u : ℕ) (Q : Progress) → (moved s t P at).pass u ≡ Some Q → ((u ≡ t) × (Q ≡ P)) ⊎ ((u ≡ t → ⊥) × (s.pass u ≡ Some Q))
-  pass_moved u Q h = grind (arith)
+  pass_moved u Q h = grind arith
 
   -- what a running pass had installed is installed by a running pass
   pub owned_moved : (c u v : ℕ) → (O : Progress) × Runs s u O × (installed O c ≡ Some v) → ((O : Progress) → s.pass t ≡ Some O → installed O c ≡ Some v → installed P c ≡ Some v)
@@ -54,13 +54,13 @@ module _ (s : State) (t : ℕ) (P : Progress) (at : ℕ → ℕ → Option Versi
       → Inv (moved s t P at) line
   advance line inv le agrees apart sources reader writer = record {
     agrees = agrees;
-    zero = grind (arith);
-    apart = grind (arith);
+    zero = grind arith;
+    apart = grind arith;
     sources = λ u Q j g h n. ⊎_elim
         (λ a. let r = sources j g (subst (λ (z : Progress). nth z.reads j ≡ Some g) a.1 n) in (omega arith, committed_moved g.cell g.stamp ∙ r.1))
         (λ a. let r = inv.sources u Q j g a.1 n in (r.0, committed_moved g.cell g.stamp ∙ r.1))
         (pass_moved u Q h);
-    crossing = grind (arith);
-    full = grind (arith);
-    line_below = grind (arith);
+    crossing = grind arith;
+    full = grind arith;
+    line_below = grind arith;
   }

@@ -37,11 +37,11 @@ module _ (m : Model) (h : History) (good : Good m h) where
   line_positive = grind (arith, nat_tests, line_greatest)
 
   pub line_small : keep_line m ≤ top
-  line_small = grind (arith)
+  line_small = grind arith
 
   -- what a worker is doing tells its stage
   look_stage : (w f : ℕ) → h.doing w ≡ in_look f → (m.worker w).stage ≡ looking f
-  look_stage w f e = grind (arith)
+  look_stage w f e = grind arith
 
   -- a worker whose pass is sealed
   pub record IsSealed (w : ℕ) (p : Pass) : Type 0 where
@@ -52,7 +52,7 @@ module _ (m : Model) (h : History) (good : Good m h) where
     pub stamp : p.stamp ≡ last_stamp m w
 
   sealed_stage : (w : ℕ) (p : Pass) → h.doing w ≡ in_pass p true → IsSealed w p
-  sealed_stage w p e = grind (arith)
+  sealed_stage w p e = grind arith
 
   -- a pending version's stamp is that of a pass then sealed
   pub pending_sealed : (c t : ℕ) (x : Version) → under t (m.lists c) ≡ Some x → x.status ≡ Pending → (w : ℕ) × ((p : Pass) × (h.doing w ≡ in_pass p true) × (p.stamp ≡ t) × (w < m.workers) × (t ≡ last_stamp m w))
@@ -64,8 +64,8 @@ module _ (m : Model) (h : History) (good : Good m h) where
       by : (w : ℕ) → w < m.workers → t ≡ last_stamp m w → (P : Progress) → 0 < P.k → (g : Stage) → View g P → Does g (last_stamp m w) good.pass (h.doing w)
           → (w : ℕ) × ((p : Pass) × (h.doing w ≡ in_pass p true) × (p.stamp ≡ t) × (w < m.workers) × (t ≡ last_stamp m w))
       by w l is P pos idle v d = absurd v
-      by w l is P pos (open' rs ws) v d = grind (arith)
-      by w l is P pos (sealed rs ws k) v d = grind (arith)
+      by w l is P pos (open' rs ws) v d = grind arith
+      by w l is P pos (sealed rs ws k) v d = grind arith
       by w l is P pos (looking f) v d = absurd v
 
   -- some version of a cell that is there is committed below every stamp that the keep line is not above
@@ -83,7 +83,7 @@ module _ (m : Model) (h : History) (good : Good m h) where
   insert_tests taken none = cond taken (refuse StampTaken) (cond none (refuse NoPlace) (accepted 0))
 
   insert_plain : (free : ℕ → ℕ) (c t n d : ℕ) → insert_answer (table_of free m) c t ≡ refused n d → ((n ≡ 7) × (holds t (m.lists c) ≡ true)) ⊎ ((n ≡ 2) ⊎ (n ≡ 8))
-  insert_plain free c t n d e = grind (arith)
+  insert_plain free c t n d e = grind arith
 
   -- the stamp below which a worker searches in a stage
   abbrev Bound : Stage → ℕ → ℕ → Type 0
@@ -166,7 +166,7 @@ module _ (m : Model) (h : History) (good : Good m h) where
     never_odd n d call odd e = from (explained free m call n d e).1
       where
         from : Why free m call n d → ⊥
-        from (by_itself p) = grind (arith)
+        from (by_itself p) = grind arith
         from (at_read w c rs ws is l was r) = finds_some (last_stamp m w) c n d (line_lower m good.some w l) odd r
         from (at_look w c f is l was r) = finds_some f c n d (line_look m good.some w f l was) odd r
         from (at_install w rs ws k x l was is r) = grind (arith, nat_tests, not_taken)

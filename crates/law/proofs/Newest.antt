@@ -30,7 +30,7 @@ on_placed t p (q ∷ qs) = grind (arith, nat_tests, on_placed t p qs)
 
 pub on_sorted : (t : ℕ) (ps : List Pass) → on t (by_stamp ps) ≡ on t ps
 on_sorted t [] = refl
-on_sorted t (p ∷ ps) = let a = on_placed t p (by_stamp ps) in let b = on_sorted t ps in grind (arith)
+on_sorted t (p ∷ ps) = let a = on_placed t p (by_stamp ps) in let b = on_sorted t ps in grind arith
 
 pub on_below : (t s : ℕ) (ps : List Pass) → on t (below s ps) ≡ cond (ltb t s) (on t ps) None
 on_below t s [] = grind arith
@@ -47,14 +47,14 @@ on_strict n t (q ∷ qs) p h e = grind (arith, nat_tests, on_strict q.stamp t qs
 
 pub strict_wider : (m n : ℕ) (ps : List Pass) → m ≤ n → strict m ps ≡ true → strict n ps ≡ true
 strict_wider m n [] le h = refl
-strict_wider m n (p ∷ ps) le h = grind (arith)
+strict_wider m n (p ∷ ps) le h = grind arith
 
 pub strict_below : (n s : ℕ) (ps : List Pass) → strict n ps ≡ true → strict n (below s ps) ≡ true
 strict_below n s [] h = refl
 strict_below n s (p ∷ ps) h = grind (arith, nat_tests, strict_below p.stamp s ps, strict_wider p.stamp n (below s ps))
 
 pub strict_placed : (n : ℕ) (p : Pass) (qs : List Pass) → p.stamp < n → on p.stamp qs ≡ None → strict n qs ≡ true → strict n (placed p qs) ≡ true
-strict_placed n p [] lt new h = grind (arith)
+strict_placed n p [] lt new h = grind arith
 strict_placed n p (q ∷ qs) lt new h = grind (arith, nat_tests, strict_placed q.stamp p qs)
 
 -- what the pass stamped t wrote to a cell
@@ -81,7 +81,7 @@ array_newest n (p ∷ ps) c w v h e new =
     grind (arith, older, newer)
   where
     rest : strict p.stamp ps ≡ true
-    rest = grind (arith)
+    rest = grind arith
 
     there : last_write p.ops c ≡ None → wrote (on w ps) c ≡ Some v
     there q = grind (arith, nat_tests)

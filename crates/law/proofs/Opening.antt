@@ -1,5 +1,5 @@
 -- begin, write and a read of the table: a pass is open, before the call or after it.
-use Rattle.std.proofs.Common.{◌≡◌, ℕ, ◌<◌, ◌≤◌, false, List, [], ◌∷◌, ◌++◌, Some, None, Option, sym, refl, ap, ◌∙◌, subst, inl, ⊎_elim, arith}
+use Rattle.std.proofs.Common.{◌≡◌, ℕ, ◌<◌, ◌≤◌, false, List, [], ◌∷◌, ◌++◌, Some, None, Option, sym, refl, ap, subst, inl, ⊎_elim, arith}
 use Rattle.std.proofs.lemmas.Bool.Decides.{nat_tests}
 use Rattle.words.specs.Outcome.{accepted}
 use Rattle.words.specs.declared.version.Version.{Version}
@@ -14,7 +14,6 @@ use Rattle.law.specs.Plain.{Op, reads, writes}
 use Rattle.law.specs.History.{Doing, in_pass, History, now_doing, stamped, with_op}
 use Rattle.law.proofs.Under.{under}
 use Rattle.law.proofs.State.{Progress, Apart, committed}
-use Rattle.law.proofs.Prefixes.{some_same}
 use Rattle.tables.proofs.Lengths.{put_here, put_other}
 use Rattle.law.proofs.Moves.{one_pass}
 use Rattle.law.proofs.Opens.{opened}
@@ -49,14 +48,14 @@ module _ (m : Model) (h : History) (good : Good m h) (w : ℕ) (within : w < m.w
         spent = spent;
         does = subst (λ g. Does g t (put good.pass t (Some P)) d) (sym shape) (record { ops = ops; is = is; runs = put_here good.pass t (Some P); local = local });
         same = same;
-        own = λ Q e r. subst (λ g. View g Q) (sym shape) (some_same Q P (sym e ∙ put_here good.pass t (Some P)));
+        own = λ Q e r. subst (λ g. View g Q) (sym shape) (let z : Q ≡ P = grind arith in z);
         elsewhere = λ u n. put_other good.pass t (Some P) u n;
         looks = λ f e. absurd cc;
         inv = opened (state m good.pass) (keep_line m) good.inv t P pos low refl refl before unseen apart sources;
         falling = good.falling;
         inside = good.inside;
         versions = λ c u y e. inl (y, e);
-        recorded = grind (arith);
+        recorded = grind arith;
         glances = grind (arith, nat_tests, glanced_same);
       })
     where
@@ -92,11 +91,11 @@ module _ (m : Model) (h : History) (good : Good m h) (w : ℕ) (within : w < m.w
       d = in_pass (record { stamp = t; ops = [] }) false
 
       new : Known m t → ⊥
-      new k = grind (arith)
+      new k = grind arith
 
       unseen : (c : ℕ) (o : Option Version) → under t (m.lists c) ≡ o → o ≡ None
       unseen c None e = refl
-      unseen c (Some y) e = grind (arith)
+      unseen c (Some y) e = grind arith
 
   -- an open pass goes on
   module _ (rs : List ReadEntry) (ws : List WriteEntry) (was : (m.worker w).stage ≡ open' rs ws) where
@@ -110,7 +109,7 @@ module _ (m : Model) (h : History) (good : Good m h) (w : ℕ) (within : w < m.w
     goes_on rs' ws' o apart sources local = opening (at_stage (m.worker w) (open' rs' ws')) _ h.last (with_op o (h.doing w)) rs' ws' refl
         (puts h.doing w (with_op o (h.doing w))) (leaves h.last w (last_stamp m w) (good.last w))
         (omega arith) (good.clocks w).1 (λ P v. refl)
-        (λ O e. let q = one_pass (state m good.pass) (last_stamp m w) (running rs ws 0) O here.runs e in (ap (λ (z : Progress). z.ended) q, ap (λ (z : Progress). z.k) q))
+        (λ O e. let q = one_pass (state m good.pass) (last_stamp m w) (running rs ws 0) O here.runs e in (cc, cc))
         (λ c. good.inv.agrees.missing (last_stamp m w) (running rs ws 0) c (here.runs, refl) refl)
         apart sources (o ∷ here.ops) (ap (with_op o) here.is) local
 

@@ -30,11 +30,11 @@ module _ (m : Model) (h : History) (good : Good m h) (w : ℕ) (within : w < m.w
 
   -- a later clock gives a timestamp that nobody has got
   pub fresh : (a : ℕ) → (m.worker w).last < a → Known m (timestamp a w) → ⊥
-  fresh a lt k = grind (arith)
+  fresh a lt k = grind arith
 
   -- what a worker in a known stage is doing
   pub doing_in : (g : Stage) → (m.worker w).stage ≡ g → Does g (last_stamp m w) good.pass (h.doing w)
-  doing_in g e = grind (arith)
+  doing_in g e = grind arith
 
   pub view_in : (g : Stage) → (m.worker w).stage ≡ g → (P : Progress) → View (m.worker w).stage P → View g P
   view_in g e P v = subst (λ g. View g P) e v
@@ -126,4 +126,4 @@ module _ (m : Model) (h : History) (good : Good m h) (w : ℕ) (within : w < m.w
   pub knows : (rs : List ReadEntry) (ws : List WriteEntry) (o : Op) → (m.worker w).stage ≡ open' rs ws
       → ((ops : List Op) → Local ops rs ws → Local (o ∷ ops) rs ws)
       → Good m (now_doing h w (with_op o (h.doing w)))
-  knows rs ws o was local = grind (arith)
+  knows rs ws o was local = grind arith

@@ -8,7 +8,6 @@ use Rattle.rules.specs.Stamps.{last_stamp}
 use Rattle.law.specs.Plain.{Op, Pass}
 use Rattle.law.specs.History.{Glance}
 use Rattle.law.proofs.State.{Progress, State, committed, Runs}
-use Rattle.law.proofs.Prefixes.{some_same}
 use Rattle.law.proofs.Moves.{put_cases, not_ended}
 use Rattle.law.proofs.Cuts.{with_versions}
 use Rattle.law.proofs.Ends.{full_of, left}
@@ -22,9 +21,9 @@ glanced_same m s s' w within same [] a = tt
 glanced_same m s s' w within same (g ∷ gs) (a, rest) = (
   record {
     from = a.from;
-    is = grind (arith);
+    is = grind arith;
     below = a.below;
-    newest = grind (arith);
+    newest = grind arith;
     under = a.under;
   },
   glanced_same m s s' w within same gs rest,
@@ -32,7 +31,7 @@ glanced_same m s s' w within same (g ∷ gs) (a, rest) = (
 
 -- other versions
 pub recorded_versions : (s : State) (at : ℕ → ℕ → Option Version) (ps : List Pass) → Recorded s ps → Recorded (with_versions s at) ps
-recorded_versions s at ps r = grind (arith)
+recorded_versions s at ps r = grind arith
 
 -- a running pass ends
 module _ (s : State) (t : ℕ) (P : Progress) (runs : Runs s t P) (at : ℕ → ℕ → Option Version) (ps : List Pass) (r : Recorded s ps) where
@@ -51,12 +50,12 @@ module _ (s : State) (t : ℕ) (P : Progress) (runs : Runs s t P) (at : ℕ → 
     positive = omega arith;
     sorted = grind (arith, nat_tests, strict_placed, on_sorted, strict_wider);
     here = λ u q e. ⊎_elim
-        (λ (z : u ≡ t). (full_of P, grind (arith, nat_tests), refl, subst (λ (q : Pass). Local q.ops P.reads P.writes) (some_same p q (grind (arith, nat_tests))) local))
+        (λ (z : u ≡ t). (full_of P, grind (arith, nat_tests), refl, subst (λ (q : Pass). Local q.ops P.reads P.writes) (let y : p ≡ q = grind (arith, nat_tests) in y) local))
         (λ (z : u ≡ t → ⊥). let o = r.here u q (grind (arith, nat_tests)) in (o.0, grind (arith, nat_tests), o.2, o.3))
         (cases_eq u t);
     there = λ u Q e done. ⊎_elim
-        (λ a. (p, let z = a.0 in grind (arith)))
-        (λ a. let o = r.there u Q a.1 done in let z = a.0 in let y = o.1 in (o.0, grind (arith)))
+        (λ a. (p, let z = a.0 in grind arith))
+        (λ a. let o = r.there u Q a.1 done in let z = a.0 in let y = o.1 in (o.0, grind arith))
         (put_cases s.pass t (Some (full_of P)) u Q e);
   }
     where

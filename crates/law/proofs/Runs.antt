@@ -36,8 +36,8 @@ run_stands workers cells es t m (more {es = es₀} {t = t₀} {m = m₀} call an
     record {
       good = subst (λ (d : Done). Good d.1 (told_with call d.0 (history es₀))) is (call_keeps m₀ (history es₀) before.good t₀.free call);
       tied = subst (λ (d : Done). Beneath t₀ m₀ call d.0 t → Tied t d.1) is (call_tied t₀ m₀ before.tied call t) steps;
-      workers_are = grind (arith);
-      cells_are = grind (arith);
+      workers_are = grind arith;
+      cells_are = grind arith;
     }
 
 -- each event was answered by the rules

@@ -16,11 +16,11 @@ below_first n t (v ∷ vs) y h e = grind (arith, nat_tests, below_first v.write 
 
 falls_tail : (v : Version) (vs : List Version) → falls (v ∷ vs) ≡ true → falls vs ≡ true
 falls_tail v [] h = refl
-falls_tail v (w ∷ ws) h = grind (arith)
+falls_tail v (w ∷ ws) h = grind arith
 
 ordered_weaker : (m n : ℕ) (vs : List Version) → m ≤ n → ordered ltb m vs ≡ true → ordered ltb n vs ≡ true
 ordered_weaker m n [] le h = refl
-ordered_weaker m n (v ∷ vs) le h = grind (arith)
+ordered_weaker m n (v ∷ vs) le h = grind arith
 
 -- a list by its stamps
 abbrev pub stamps : List Version → ℕ → Option Version
@@ -41,7 +41,7 @@ first_found : (passed : Status → Type 0) (s : ℕ) (v : Version) (vs : List Ve
 first_found passed s v vs h lt e = grind (arith, nat_tests, below_first)
 
 first_lacks : (passed : Status → Type 0) (s : ℕ) (v : Version) (vs : List Version) → (v.write < s → passed v.status) → Lacks passed s (stamps vs) → Lacks passed s (stamps (v ∷ vs))
-first_lacks passed s v vs skips ih t y u below = grind (arith)
+first_lacks passed s v vs skips ih t y u below = grind arith
 
 first_passed : (passed : Status → Type 0) (s : ℕ) (v : Version) (vs : List Version) (x : Version) → ordered ltb v.write vs ≡ true → (v.write < s → passed v.status) → Finds passed s (stamps vs) x → Finds passed s (stamps (v ∷ vs)) x
 first_passed passed s v vs x h skips ih = grind (arith, nat_tests, below_first)
@@ -64,7 +64,7 @@ visible_says s (v ∷ vs) h = by (ltb v.write s) refl v.status refl (visible_say
   where
     by : (b : Bool) → ltb v.write s ≡ b → (g : Status) → v.status ≡ g → VisibleSays s (stamps vs) (visible s vs) → VisibleSays s (stamps (v ∷ vs)) (cond b (by_status g (refuse (Wait v.write)) (accepted v) (visible s vs)) (visible s vs))
     by false b g e ih = grind (arith, nat_tests, visible_passed)
-    by true b Pending e ih = grind (arith)
+    by true b Pending e ih = grind arith
     by true b Committed e ih = first_found (λ g. g ≡ Aborted) s v vs h (ltb-true v.write s b) e
     by true b Aborted e ih = visible_passed s v vs (visible s vs) h (λ _. e) ih
 
@@ -98,4 +98,4 @@ newest_bounded s (v ∷ vs) h = grind (arith, nat_tests, newest_bounded s vs, or
 -- a list that falls and fits 64 bits is within reach of every search
 pub length_bound : (n : ℕ) (vs : List Version) → ordered ltb n vs ≡ true → length vs ≤ n
 length_bound n [] h = omega arith
-length_bound n (v ∷ vs) h = let r = length_bound v.write vs (grind (arith)) in grind (arith)
+length_bound n (v ∷ vs) h = let r = length_bound v.write vs (grind arith) in grind arith

@@ -1,6 +1,6 @@
 -- From the invariant to the plain array: its value is the newest committed write, and committed
 -- passes run again on it answer as they did.
-use Rattle.std.proofs.Common.{◌≡◌, ℕ, ◌+◌, ◌-◌, ◌*◌, ◌<◌, ◌≤◌, true, cond, ltb, List, [], ◌∷◌, Some, None, Option, sym, refl, ap, ◌∙◌, ⊎_elim, arith}
+use Rattle.std.proofs.Common.{◌≡◌, ℕ, ◌+◌, ◌-◌, ◌*◌, ◌<◌, ◌≤◌, true, cond, ltb, List, [], ◌∷◌, Some, None, sym, ap, ◌∙◌, ⊎_elim, arith}
 use Rattle.std.proofs.lemmas.List.{take_all}
 use Rattle.std.proofs.lemmas.Bool.{cases_lt}
 use Rattle.std.proofs.lemmas.Bool.Decides.{nat_tests}
@@ -33,29 +33,25 @@ Chosen f ps qs = (t : ℕ) → on t qs ≡ cond (ltb t f) (on t ps) None
 module _ (s : State) (line : ℕ) (inv : Inv s line) (ps : List Pass) (recorded : Recorded s ps) where
   -- what passes wrote is what is committed
   pub wrote_committed : (c t : ℕ) → 0 < t → wrote (on t ps) c ≡ committed s c t
-  wrote_committed c t pos = grind (arith)
+  wrote_committed c t pos = grind arith
 
   -- the array after the passes below f
   pub array_is : (f n : ℕ) (qs : List Pass) → Chosen f ps qs → strict n qs ≡ true → (c w v : ℕ) → committed s c w ≡ Some v → w < f → ((t u : ℕ) → committed s c t ≡ Some u → t < f → t ≤ w) → after qs c ≡ v
   array_is f n qs chosen falls c w v is low new = ⊎_elim
       (λ (pos : 0 < w). array_newest n qs c w v falls
-      (let a = chosen w in let b = wrote_committed c w pos in grind (arith))
-      (λ t u h. newer t u h (on t qs) refl))
-      (λ (nil : w ≤ 0). array_none n qs c falls (λ t. nothing nil t (wrote (on t qs) c) refl) ∙ zero_value nil)
+      (let a = chosen w in let b = wrote_committed c w pos in grind arith)
+      (λ t u h. let r = written t u h in new t u r.2 r.0))
+      (λ (nil : w ≤ 0). array_none n qs c falls (nothing nil) ∙ zero_value nil)
       (cases_lt 0 w)
     where
       written : (t u : ℕ) → wrote (on t qs) c ≡ Some u → (t < f) × (0 < t) × (committed s c t ≡ Some u)
-      written t u h = grind (arith)
+      written t u h = grind arith
 
-      newer : (t u : ℕ) → wrote (on t qs) c ≡ Some u → (o : Option Pass) → on t qs ≡ o → t ≤ w
-      newer t u h o e = let r = written t u h in new t u r.2 r.0
-
-      nothing : w ≤ 0 → (t : ℕ) (o : Option ℕ) → wrote (on t qs) c ≡ o → o ≡ None
-      nothing nil t None h = refl
-      nothing nil t (Some u) h = grind (arith, nat_tests, written)
+      nothing : w ≤ 0 → (t : ℕ) → wrote (on t qs) c ≡ None
+      nothing nil t = let z = new t in grind (arith, nat_tests, written)
 
       zero_value : w ≤ 0 → 0 ≡ v
-      zero_value nil = grind (arith)
+      zero_value nil = grind arith
 
   -- between what a committed pass read and the pass nothing is committed
   pub nothing_between : (t : ℕ) (P : Progress) (j : ℕ) (g : ReadEntry) → s.pass t ≡ Some P → P.ended ≡ true → nth P.reads j ≡ Some g → (w u : ℕ) → committed s g.cell w ≡ Some u → w < t → w ≤ g.stamp
@@ -76,13 +72,13 @@ module _ (s : State) (line : ℕ) (inv : Inv s line) (ps : List Pass) (recorded 
   replay n (p ∷ qs) falls chosen = (again (recorded.here p.stamp p first), replay p.stamp qs rest earlier)
     where
       rest : strict p.stamp qs ≡ true
-      rest = grind (arith)
+      rest = grind arith
 
       low : p.stamp < n
-      low = grind (arith)
+      low = grind arith
 
       first : on p.stamp ps ≡ Some p
-      first = grind (arith)
+      first = grind arith
 
       earlier : Chosen p.stamp ps qs
       earlier t = grind (arith, nat_tests, on_strict)

@@ -54,12 +54,12 @@ module _ (m : Model) (h : History) (good : Good m h) (free : ℕ → ℕ) where
 
   -- look answers the floor
   look_answers : (w f : ℕ) → (outcome free m (Look w)).0 ≡ accepted f → floor m ≡ f
-  look_answers w f e = grind (arith)
+  look_answers w f e = grind arith
 
   pub floors : (w f : ℕ) → (outcome free m (Look w)).0 ≡ accepted f → Least h.last m.workers f
   floors w f e = subst (Least h.last m.workers) (look_answers w f e) (record {
     lowest = grind (arith, nat_tests, floor_lower);
     worker = (floor_met m good.some).0;
     within = (floor_met m good.some).1;
-    is = grind (arith);
+    is = grind arith;
   })

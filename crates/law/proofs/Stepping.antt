@@ -1,5 +1,5 @@
 -- install, stamp and check: a sealed pass does its next step.
-use Rattle.std.proofs.Common.{◌≡◌, ℕ, ◌+◌, ◌-◌, ◌*◌, ◌<◌, ◌≤◌, Bool, true, false, cond, ◌&&◌, eqb, ◌⊎◌, List, length, Some, None, Option, sym, refl, ap, ◌∙◌, subst, inl, arith}
+use Rattle.std.proofs.Common.{◌≡◌, ℕ, ◌+◌, ◌-◌, ◌*◌, ◌<◌, ◌≤◌, true, false, cond, ◌&&◌, eqb, ◌⊎◌, List, length, Some, sym, refl, ap, ◌∙◌, subst, inl, arith}
 use Rattle.std.proofs.lemmas.Bool.{cases_eq}
 use Rattle.std.proofs.lemmas.Bool.Decides.{nat_tests}
 use Rattle.words.specs.Outcome.{accepted}
@@ -19,7 +19,7 @@ use Rattle.rules.specs.Rules.{to_install, to_stamp, to_check_read, to_check_writ
 use Rattle.law.specs.History.{History}
 use Rattle.law.proofs.Under.{under, change, under_with, under_changed}
 use Rattle.law.proofs.State.{Progress, State, Inv}
-use Rattle.law.proofs.Prefixes.{some_same, nth_short}
+use Rattle.law.proofs.Prefixes.{nth_same, nth_short}
 use Rattle.law.proofs.Searches.{Finds}
 use Rattle.law.proofs.Cross.{cross_read, cross_write}
 use Rattle.tables.proofs.Lengths.{put_other}
@@ -34,7 +34,7 @@ use Rattle.law.proofs.Turns.{turn}
 
 -- a property of every list, where one is changed
 pub each_list : {A : Type 0} (Q : ℕ → A → Type 0) (f : ℕ → A) (c : ℕ) (x : A) → Q c x → ((d : ℕ) → Q d (f d)) → (d : ℕ) → Q d (put f c x d)
-each_list Q f c x new old d = grind (arith)
+each_list Q f c x new old d = grind arith
 
 module _ (m : Model) (h : History) (good : Good m h) (w : ℕ) (within : w < m.workers)
     (rs : List ReadEntry) (ws : List WriteEntry) (k : ℕ) (was : (m.worker w).stage ≡ sealed rs ws k) where
@@ -66,16 +66,16 @@ module _ (m : Model) (h : History) (good : Good m h) (w : ℕ) (within : w < m.w
     last = leaves h.last w t (good.last w);
     later = omega arith;
     spent = (good.clocks w).1;
-    does = grind (arith);
+    does = grind arith;
     same = λ Q v. refl;
-    own = grind (arith);
+    own = grind arith;
     elsewhere = λ u n. put_other good.pass t (Some N) u n;
     looks = λ f e. absurd cc;
     inv = inv;
     falling = falling;
     inside = inside;
     versions = versions;
-    recorded = grind (arith);
+    recorded = grind arith;
     glances = grind (arith, nat_tests, glanced_same);
   })
     where
@@ -102,10 +102,10 @@ module _ (m : Model) (h : History) (good : Good m h) (w : ℕ) (within : w < m.w
       new = new_version (last_stamp m w) e.value
 
       untaken : holds (last_stamp m w) (m.lists e.cell) ≡ false
-      untaken = grind (arith)
+      untaken = grind arith
 
       in_cell : e.cell < m.cells
-      in_cell = grind (arith)
+      in_cell = grind arith
 
       new_or_old : OldOrOwn e.cell (with_version new (m.lists e.cell))
       new_or_old u y q = grind (arith, nat_tests, under_with)
@@ -136,40 +136,23 @@ module _ (m : Model) (h : History) (good : Good m h) (w : ℕ) (within : w < m.w
       at_changed : (c u : ℕ) → under u (ls c) ≡ cond (eqb e.cell c && eqb e.stamp u) (change (raised (last_stamp m w)) (under u (m.lists c))) (under u (m.lists c))
       at_changed c u = grind (arith, nat_tests, under_changed, cases_eq c e.cell)
 
-      itself : (x : Version) → Same x x
-      itself x = record { status = refl; value = refl; read = omega arith }
-
-      lifted : (x : Version) → Same x (raised (last_stamp m w) x)
-      lifted x = record { status = refl; value = refl; read = omega arith }
-
       back : (c u : ℕ) (y : Version) → under u (ls c) ≡ Some y → (x : Version) × (under u (m.lists c) ≡ Some x) × Same x y
-      back c u y q = by (eqb e.cell c && eqb e.stamp u) (under u (m.lists c)) refl (sym (at_changed c u) ∙ q)
-        where
-          by : (b : Bool) (o : Option Version) → under u (m.lists c) ≡ o → cond b (change (raised (last_stamp m w)) o) o ≡ Some y → (x : Version) × (under u (m.lists c) ≡ Some x) × Same x y
-          by true None p r = absurd (grind arith)
-          by false None p r = absurd (grind arith)
-          by true (Some x) p r = (x, p, subst (Same x) (some_same (raised (last_stamp m w) x) y r) (lifted x))
-          by false (Some x) p r = (x, p, subst (Same x) (some_same x y r) (itself x))
+      back c u y q = let z = at_changed c u in grind (arith, nat_tests)
 
       on : (c u : ℕ) (x : Version) → under u (m.lists c) ≡ Some x → (y : Version) × (under u (ls c) ≡ Some y) × Same x y
       on c u x q = grind (arith, nat_tests, at_changed)
 
       raised_read : (j : ℕ) (g : ReadEntry) (y : Version) → nth rs j ≡ Some g → length ws + j ≡ k → under g.stamp (ls g.cell) ≡ Some y → last_stamp m w ≤ y.read
       raised_read j g y n q r =
-          let same : g ≡ e = some_same g e (sym n ∙ subst (λ j. nth rs j ≡ Some e) (let z : k - length ws ≡ j = omega arith in z) next_is.1) in
-          let b = subst (λ (g : ReadEntry). under g.stamp (ls g.cell) ≡ Some y) same r in
-          read (under e.stamp (m.lists e.cell)) refl (sym (at_changed e.cell e.stamp) ∙ b)
-        where
-          read : (o : Option Version) → under e.stamp (m.lists e.cell) ≡ o → cond (eqb e.cell e.cell && eqb e.stamp e.stamp) (change (raised (last_stamp m w)) o) o ≡ Some y → last_stamp m w ≤ y.read
-          read None p b = absurd (grind (arith))
-          read (Some x) p b = let z : raised (last_stamp m w) x ≡ y = some_same (raised (last_stamp m w) x) y (grind (arith)) in let z' = ap (λ (v : Version). v.read) z in omega arith
+          let same = nth_same rs j (k - length ws) g e n next_is.1 (omega arith) in
+          let z = at_changed e.cell e.stamp in grind (arith, nat_tests)
 
   pub checking_read : (free : ℕ → ℕ) (e : ReadEntry) (v : Version) → next_step rs ws k ≡ to_check_read e → search (visible (last_stamp m w)) (table_of free m) e.cell ≡ accepted v → v.write ≡ e.stamp
       → Good (with_worker m w (at_stage (m.worker w) (sealed rs ws (k + 1)))) h
   checking_read free e v next seen same = unlisted (goes s (keep_line m) good.inv t P (here.runs, refl) (omega (arith, next_is.0)) (λ c u. under u (m.lists c)) (stays (λ c u. under u (m.lists c)))
       (λ j g y n q r. absurd (let z = nth_short rs j g n in omega (arith, next_is.0)))
       (λ j x g u Q n q h' wrote above below.
-      let it : g ≡ e = some_same g e (sym n ∙ subst (λ j. nth rs j ≡ Some e) (let z : k - (length ws + length rs) ≡ j = omega arith in z) next_is.1) in
+      let it = nth_same rs j (k - (length ws + length rs)) g e n next_is.1 (omega arith) in
       cross_read s (keep_line m) good.inv t low g v
       (subst (λ (g : ReadEntry). Finds' g.cell) (sym it) (visible_found m h good (last_stamp m w) free e.cell v seen).1)
       (same ∙ ap (λ (z : ReadEntry). z.stamp) (sym it)) u Q x h' wrote above below)
@@ -190,7 +173,7 @@ module _ (m : Model) (h : History) (good : Good m h) (w : ℕ) (within : w < m.w
       (λ j g y n q r. absurd (let z = nth_short rs j g n in omega (arith, next_is.0)))
       (λ j x g u Q n q. absurd (let z = nth_short rs j g n in omega (arith, next_is.0)))
       (λ n f q r j g u Q h' p far same above below.
-      let it : f ≡ e = some_same f e (sym q ∙ subst (λ j. nth ws j ≡ Some e) (let z : k - (length ws + 2 * length rs) ≡ n = omega arith in z) next_is.1) in
+      let it = nth_same ws n (k - (length ws + 2 * length rs)) f e q next_is.1 (omega arith) in
       cross_write s (keep_line m) good.inv t low e.cell v (visible_found m h good (last_stamp m w) free e.cell v seen).1 low_read
       u Q j g h' p far (same ∙ ap (λ (z : WriteEntry). z.cell) it) above below))
     where

@@ -51,8 +51,7 @@ module _ (t : Table) (m : Model) (tied : Tied t m) where
   ending how w vs u h = let r = all_marked how (last_stamp m w) vs t u h in (r.0 ∙ tied.cells, r.1 ∙ (λ i. ended_all how (tied.cells i) (last_stamp m w) (tied.versions i) vs))
 
   pub call_tied : (call : Call) (u : Table) → Beneath t m call (outcome t.free m call).0 u → Tied u (outcome t.free m call).1
-  call_tied = every_way t.free m (λ call done. (u : Table) → Beneath t m call done.0 u → Tied u done.1) (record {
-    refuses = λ call n d why. untouched m refl refl;
+  call_tied = every_way t.free m (λ call done. (u : Table) → Beneath t m call done.0 u → Tied u done.1) (λ call n d why. untouched m refl refl) (record {
     begins = λ w units _ _ _. untouched _ refl refl;
     pulses = λ w units _ _ _. untouched _ refl refl;
     syncs = λ w o _ _. untouched _ refl refl;

@@ -1,6 +1,5 @@
 -- Events, one call more at a time.
-use Rattle.std.proofs.Common.{◌≡◌, ℕ, suc, ◌+◌, ◌<◌, ◌≤◌, List, [], ◌∷◌, ◌++◌, length, get_or, take, Result, sym, refl, ap, ◌∙◌, subst, arith}
-use Rattle.std.proofs.lemmas.List.{take_all}
+use Rattle.std.proofs.Common.{◌≡◌, ℕ, suc, ◌+◌, ◌<◌, List, [], ◌∷◌, ◌++◌, length, get_or, take, Result, sym, refl, ap, ◌∙◌, subst, arith}
 use Rattle.words.specs.Outcome.{told}
 use Rattle.words.specs.declared.refusal.Refusal.{Refusal}
 use Rattle.rules.specs.declared.call.Call.{Call}
@@ -35,7 +34,3 @@ module _ {T : Type 0} (meaning : T → Table) (l m : PlateMap T) (cs : List Call
   goes_on_push n out d r is size lt before next workers cells es run =
       subst (λ (events : List Event). Run workers cells events (meaning n.table.now) (model_of meaning n))
       (sym (events_push cs rs out i d r es is size lt)) (next workers cells _ (before workers cells es run))
-
-  -- the first i calls are all of them
-  pub goes_on_all : length cs ≤ i → GoesOn meaning l (take i cs) rs m → GoesOn meaning l cs rs m
-  goes_on_all le h = subst (λ (cs : List Call). GoesOn meaning l cs rs m) (take_all i cs le) h

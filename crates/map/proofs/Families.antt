@@ -58,9 +58,6 @@ module _ (t u : Table) (i : Crew) (w : ℕ) (x y : Worker) (within : w < i.count
   abort_performed h steps = performed t u i j _ a (both (abort_by t w) (upon_cells t u a (abort_calls w x) steps) h) (subst (λ z. StepsUpon t a (abort_calls w z) u) (sym seated_here) steps)
 
   -- commit, and one more commit counted where it is accepted
-  pub commit_refused : (n d : ℕ) → a ≡ refused n d → (a, (y, u.versions)) ≡ commit_by t w x → StepsUpon t a (commit_calls w x) u → Performed t i (Commit w) a u j
-  commit_refused n d no' h steps = performed t u i j _ a (subst (λ o. (o, plate u j) ≡ counting (o, plate u j)) (sym no') refl ∙ ap counting (both (commit_by t w) (upon_cells t u a (commit_calls w x) steps) h)) (subst (λ z. StepsUpon t a (commit_calls w z) u) (sym seated_here) steps)
-
   pub commit_counted : (n : ℕ) → a ≡ accepted n → (a, (y, u.versions)) ≡ commit_by t w x → StepsUpon t a (commit_calls w x) u
       → (k : Crew) → plate u k ≡ with_commits (plate u j) (one_more i.commits) → (j.commits ≡ i.commits) → Performed t i (Commit w) a u k
   commit_counted n ok h steps k more same = performed t u i k _ a

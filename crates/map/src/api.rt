@@ -1,4 +1,5 @@
-// The sixteen calls of the map.
+// The sixteen calls of the map, as they are to be offered. The crew has calls of the same names beside them, which
+// take the table as a parameter: the checker has no rule yet for them on a struct that holds a reference.
 ghost use Rattle.words.specs.Outcome.{told};
 ghost use Rattle.rules.specs.declared.call.Call.TheVariants.{Begin, Pulse, Sync, Read, Write, Seal, Install, Stamp, Check, Commit, Abort, Look, Close, Show, Commits, Collect};
 ghost use Rattle.map.specs.Performed.{Did};

@@ -1,4 +1,5 @@
-// The calls of a worker, by what they touch.
+// The calls of a worker, by what they touch. Each takes the seat and then the worker: of one function that gave
+// both, what is lent would stand inside a result.
 ghost use Rattle.std.specs.Prelude.{◌≡◌, ◌<◌, ◌≤◌, MatchResult};
 ghost use Rattle.words.specs.Outcome.{told, refuse};
 ghost use Rattle.words.specs.declared.refusal.Refusal.TheVariants.{NoWorker};

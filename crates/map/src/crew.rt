@@ -3,8 +3,8 @@ ghost use Rattle.std.specs.Prelude.{◌≡◌, ◌^◌, ◌<◌, ◌≤◌, vec_
 
 use workers::Worker;
 
-// 1 to 16 of the places are in use. There are sixteen however many are used, as the rules say, so the
-// count stands beside them.
+// 1 to 16 of the places are in use. There are sixteen however many are used (docs/DECISIONS.md), so the count
+// stands beside them.
 #[derive(Drop)]
 pub struct Crew {
     pub(crate) workers: Vec<Worker>,

@@ -1,4 +1,4 @@
-// The floor and the keep line: least timestamps over the workers of the map.
+// The floor and the keep line: least timestamps over the workers of the map, each by a loop over their slice.
 ghost use Rattle.std.specs.Prelude.{◌≡◌, ℕ, ◌-◌, ◌<◌, ◌≤◌, min, length};
 ghost use Rattle.rules.specs.Stamps.{least, look_floor};
 ghost use Rattle.map.specs.Plate.{seated, last_of};

@@ -18,8 +18,8 @@ pub fn play_scan<T: VersionTable>(
     play(rt, table, "Upkeep", &UPKEEP)?;
     play(rt, table, "Refusals", &REFUSALS)?;
     println!(rt; "  Filling a cell")?;
-    for n in 0..inserts {
-        play_call(rt, table, filling(n.saturating_add(1)))?;
+    for n in 1..=inserts {
+        play_call(rt, table, filling(n))?;
     }
     play(rt, table, "Clearing", &CLEARING)
 }

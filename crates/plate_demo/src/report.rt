@@ -7,7 +7,7 @@ use tables::{Answer, VersionTable};
 use words::Refusal;
 
 // What a call came to: ok and the answer, or no and the refusal's number, detail and name.
-#[derive(Clone, Copy)]
+#[derive(Clone, Copy, Debug, PartialEq, Eq)]
 pub struct Told(pub Result<Answer, Refusal>);
 
 impl fmt::Display for Told {

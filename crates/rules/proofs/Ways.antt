@@ -18,7 +18,7 @@ use Rattle.rules.specs.Model.{Stage, idle, open', sealed, looking, Model, table_
 use Rattle.rules.specs.Stamps.{last_clock, adjusted, ticked, timestamp, last_stamp, floor, keep_line}
 use Rattle.rules.specs.Sets.{find_read, find_write, full, replaced}
 use Rattle.rules.specs.Search.{visible, newest, newest_below, search}
-use Rattle.rules.specs.Rules.{Done, accept, deny, upon, with_a_worker, with_a_cell, if_idle, if_open, if_sealed, tick, read_new, read_known, read_written, read_in, written, steps, Step, to_install, to_stamp, to_check_read, to_check_write, finished, next_step, stepped, install_step, gone, stamp_step, check_step, committed, aborted, abort_in, close_in, outcome}
+use Rattle.rules.specs.Rules.{Done, accept, deny, upon, with_a_worker, with_a_cell, if_idle, if_open, if_sealed, tick, read_new, read_known, read_written, read_in, written, steps, Step, to_install, to_stamp, to_check_read, to_check_write, finished, next_step, stepped, install_step, stamp_step, check_step, committed, aborted, abort_in, close_in, outcome}
 
 -- a refusal that is neither WAIT nor STAMP TAKEN nor NO VERSION
 abbrev pub plain : ℕ → Bool
@@ -35,9 +35,8 @@ module _ (free : ℕ → ℕ) (m : Model) where
     at_show : (c : ℕ) → call ≡ Show c → search newest (table_of free m) c ≡ refused n d → Why call n d
     at_collect : (c : ℕ) → call ≡ Collect c → search (newest_below (keep_line m)) (table_of free m) c ≡ refused n d → Why call n d
 
-  -- what a property has to hold of, to hold of every call
+  -- what a property has to hold of, beside refusals, to hold of every call
   pub record Ways (Q : Call → Done → Type 0) : Type 0 where
-    pub refuses : (call : Call) (n d : ℕ) → Why call n d → Q call (refused n d, m)
     pub begins : (w units : ℕ) → w < m.workers → (m.worker w).stage ≡ idle → adjusted (m.worker w) units ≤ last_clock
         → Q (Begin w units) (accept (timestamp (adjusted (m.worker w) units) w) (with_worker m w (ticked (m.worker w) units (open' [] []))))
     pub pulses : (w units : ℕ) → w < m.workers → (m.worker w).stage ≡ idle → adjusted (m.worker w) units ≤ last_clock
@@ -79,11 +78,11 @@ module _ (free : ℕ → ℕ) (m : Model) where
     pub collects : (c : ℕ) (v : Version) (n : ℕ) → search (newest_below (keep_line m)) (table_of free m) c ≡ accepted v → cut_answer (table_of free m) c v.write ≡ accepted n
         → Q (Collect c) (accept n (with_list m c (kept v.write (m.lists c))))
 
-  module _ (Q : Call → Done → Type 0) (ways : Ways Q) where
+  module _ (Q : Call → Done → Type 0) (refuses : (call : Call) (n d : ℕ) → Why call n d → Q call (refused n d, m)) (ways : Ways Q) where
     -- the property of a call holds of what a rule comes to once it holds where the rule accepts
     module _ (call : Call) where
       denied : (e : Refusal) → plain (number e) ≡ true → Q call (deny e m)
-      denied e h = ways.refuses call (number e) (detail e) (by_itself h)
+      denied e h = refuses call (number e) (detail e) (by_itself h)
 
       turned_away : Q call (deny OutOfTurn m)
       turned_away = denied OutOfTurn refl
@@ -95,7 +94,7 @@ module _ (free : ℕ → ℕ) (m : Model) where
 
       passing : {A : Type 0} (o : Outcome A) {k : A → Done} → ((a : A) → o ≡ accepted a → Q call (k a)) → ((n d : ℕ) → o ≡ refused n d → Why call n d) → Q call (upon o m k)
       passing (accepted a) h why = h a refl
-      passing (refused n d) h why = ways.refuses call n d (why n d refl)
+      passing (refused n d) h why = refuses call n d (why n d refl)
 
       of_worker : (w : ℕ) {x : Done} → (w < m.workers → Q call x) → Q call (with_a_worker m w x)
       of_worker w h = tested (ltb w m.workers) (λ b. h (ltb-true w m.workers b)) (λ _. denied NoWorker refl)
@@ -158,12 +157,7 @@ module _ (free : ℕ → ℕ) (m : Model) where
 
         stamping : (step : Step) → next_step rs ws k ≡ step → Q (Stamp w) (stamp_step step (table_of free m) m w rs ws k)
         stamping (to_install e) is = turned_away (Stamp w)
-        stamping (to_stamp e) is = passing (Stamp w) (gone (raise_answer (table_of free m) e.cell e.stamp))
-            (λ n ok. ways.stamps w rs ws k e n within was is (there (raise_answer (table_of free m) e.cell e.stamp) n ok)) (λ n d no'. by_itself (grind (arith, nat_tests)))
-          where
-            there : (o : Outcome ℕ) (n : ℕ) → gone o ≡ accepted n → o ≡ accepted n
-            there (accepted a) n e = e
-            there (refused a d) n e = absurd (grind arith)
+        stamping (to_stamp e) is = grind (arith, nat_tests, passing)
         stamping (to_check_read e) is = turned_away (Stamp w)
         stamping (to_check_write e) is = turned_away (Stamp w)
         stamping finished is = turned_away (Stamp w)

@@ -23,6 +23,7 @@ use Rattle.rules.specs.Search.{visible, newest, newest_below, search}
 abbrev pub Came : Type 0 → Type 0
 Came A = Outcome ℕ × A
 
+-- what a call of a map comes to
 abbrev pub Done : Type 0
 Done = Came Model
 
@@ -147,10 +148,11 @@ next_step rs ws k =
     (cond (nat_lt k (length ws + 2 * length rs)) (step_read to_check_read (nth rs (k - (length ws + length rs))))
     (cond (nat_lt k (steps rs ws)) (step_write to_check_write (nth ws (k - (length ws + 2 * length rs)))) finished)))
 
--- an accepted step: k goes on by 1
+-- how many steps are left once k and one more are done
 abbrev pub steps_left : List ReadEntry → List WriteEntry → ℕ → ℕ
 steps_left rs ws k = steps rs ws - (k + 1)
 
+-- an accepted step: k goes on by 1
 abbrev pub stepped : Model → ℕ → List ReadEntry → List WriteEntry → ℕ → Done
 stepped m w rs ws k = accept (steps_left rs ws k) (with_worker m w (at_stage (m.worker w) (sealed rs ws (k + 1))))
 
@@ -202,6 +204,7 @@ ended_all how cells s ls (e ∷ es) = ended_all how cells s (ended_one how cells
 abbrev pub counted : Model → ℕ
 counted m = m.commits
 
+-- it goes on by one, and no further than that
 abbrev pub one_more : ℕ → ℕ
 one_more n = min (n + 1) 4294967295
 

@@ -8,18 +8,18 @@ use Rattle.words.specs.declared.status.Ending.{Ending}
 use Rattle.words.specs.declared.status.Ending.TheVariants.{Commit as Commits', Abort as Aborts'}
 use Rattle.words.specs.declared.version.Version.{Version}
 use Rattle.words.specs.Version.{new_version}
-use Rattle.tables.specs.Versions.{with_version, at_stamp, raised}
-use Rattle.tables.specs.Table.{Table, put, insert_answer, raise_answer}
+use Rattle.tables.specs.Versions.{with_version, at_stamp, raised, kept}
+use Rattle.tables.specs.Table.{Table, put, insert_answer, raise_answer, cut_answer}
 use Rattle.rules.specs.declared.entry.ReadEntry.{ReadEntry}
 use Rattle.rules.specs.declared.entry.WriteEntry.{WriteEntry}
 use Rattle.rules.specs.declared.call.Call.{Call}
 use Rattle.rules.specs.declared.call.Call.TheVariants.{Begin, Pulse, Sync, Read, Write, Seal, Install, Stamp, Check, Commit, Abort, Look, Close, Show, Commits, Collect}
-use Rattle.rules.specs.Model.{Stage, idle, open', sealed, looking, Worker, Model, table_of, with_worker, with_lists, at_stage}
-use Rattle.rules.specs.Stamps.{last_clock, adjusted, ticked, timestamp, floor}
+use Rattle.rules.specs.Model.{Stage, idle, open', sealed, looking, Worker, Model, table_of, with_worker, with_list, with_lists, at_stage}
+use Rattle.rules.specs.Stamps.{last_clock, adjusted, ticked, timestamp, floor, keep_line}
 use Rattle.rules.specs.Sets.{find_read, find_write, full, replaced}
-use Rattle.rules.specs.Search.{visible, search}
-use Rattle.rules.specs.Rules.{Done, accept, deny, upon, if_idle, if_open, if_sealed, with_a_worker, with_a_cell, read_known, read_written, Step, to_install, to_stamp, to_check_read, to_check_write, finished, next_step, steps, gone, ended_all, count_one, outcome}
-pub use Rattle.rules.specs.Rules.{Came, accept as accept_by, deny as deny_by, upon as upon_by, read_known as read_known_by, read_written as read_written_by, steps_left, one_more}
+use Rattle.rules.specs.Search.{visible, newest, newest_below, search}
+use Rattle.rules.specs.Rules.{Done, accept, deny, upon, if_idle, if_open, if_sealed, with_a_worker, with_a_cell, read_known, read_written, Step, to_install, to_stamp, to_check_read, to_check_write, finished, next_step, steps, gone, ended_all, count_one}
+pub use Rattle.rules.specs.Rules.{Came, steps_left, one_more}
 
 -- the timestamp of the pass that the worker x, numbered w, runs
 abbrev pub pass_stamp : Worker → ℕ → ℕ
@@ -170,7 +170,7 @@ abbrev pub counting : Done → Done
 counting (accepted n, m) = accept n (count_one m)
 counting (refused n d, m) = (refused n d, m)
 
--- the rules' function once more, a worker's call as a rule over that worker; show, commits and collect are no worker's
+-- the rules' function once more, a worker's call as a rule over that worker
 abbrev pub turn_outcome : (ℕ → ℕ) → Model → Call → Done
 turn_outcome free m (Begin w units) = at_worker m w (begin_by w units)
 turn_outcome free m (Pulse w units) = at_worker m w (pulse_by w units)
@@ -185,6 +185,8 @@ turn_outcome free m (Commit w) = counting (at_both m w (commit_by (table_of free
 turn_outcome free m (Abort w) = at_both m w (abort_by (table_of free m) w)
 turn_outcome free m (Look w) = at_worker m w (look_by (floor m))
 turn_outcome free m (Close w) = at_worker m w close_by
-turn_outcome free m (Show c) = outcome free m (Show c)
-turn_outcome free m Commits = outcome free m Commits
-turn_outcome free m (Collect c) = outcome free m (Collect c)
+turn_outcome free m (Show c) = upon (search newest (table_of free m) c) m (λ v. accept v.value m)
+turn_outcome free m Commits = accept m.commits m
+turn_outcome free m (Collect c) =
+    upon (search (newest_below (keep_line m)) (table_of free m) c) m
+    (λ v. upon (cut_answer (table_of free m) c v.write) m (λ n. accept n (with_list m c (kept v.write (m.lists c)))))

@@ -11,6 +11,7 @@ pub trait NamesCell {
         ensures { result ≡ named self.now };
 }
 
+// One impl for each kind of entry: an impl that a macro of this repository wrote is not accepted.
 impl NamesCell for ReadEntry {
     ghost named = { λ e. e.cell };
 

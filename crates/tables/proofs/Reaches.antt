@@ -1,10 +1,9 @@
 -- From clear on, whatever calls are made, write stamps fall strictly along every list.
-use Rattle.std.proofs.Common.{◌≡◌, ℕ, true, false, List, Ok, Err, Result, refl, ap, ◌∙◌, subst, ⊎_elim, arith, MatchResult}
+use Rattle.std.proofs.Common.{◌≡◌, ℕ, true, false, List, refl, ap, ◌∙◌, ⊎_elim, arith}
 use mathlib.Core.Path.{subst⁻¹}
 use Rattle.std.proofs.lemmas.Bool.{cases_eq}
 use Rattle.std.proofs.lemmas.Bool.Decides.{nat_tests}
-use Rattle.words.specs.Outcome.{Outcome, accepted, refused, told}
-use Rattle.words.specs.declared.refusal.Refusal.{Refusal}
+use Rattle.words.specs.Outcome.{Outcome, accepted, refused}
 use Rattle.words.specs.declared.version.Version.{Version}
 use Rattle.tables.specs.declared.call.TableCall.{TableCall}
 use Rattle.tables.specs.declared.call.TableCall.TheVariants.{Clear, Cells, FreePlaces, Length, Version as VersionAt, Insert, Raise, Mark, Cut as CutAt}
@@ -82,8 +81,3 @@ step_cells t u (CutAt c s) h = upon (cut_answer t c s) (λ a e (done : Cut t u c
 pub reached_strict : {t : Table} → Reached t → Strict t
 reached_strict (start {t} {u} h) = clear_strict t u h
 reached_strict (next {t} {u} call r h) = step_strict t u call h (reached_strict r)
-
--- a result and what it did, as the rule says it
-pub told_upon : (P Q : Type 0) (r : Result ℕ Refusal) (o : Outcome ℕ) → told r ≡ o → MatchResult r (λ _. P) (λ _. Q) → Upon o P Q
-told_upon P Q (Ok a) o e h = subst (λ (z : Outcome ℕ). Upon z P Q) e h
-told_upon P Q (Err x) o e h = subst (λ (z : Outcome ℕ). Upon z P Q) e h

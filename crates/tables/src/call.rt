@@ -100,6 +100,7 @@ pub fn perform<T: VersionTable>(table: &mut T, call: TableCall) -> Result<Answer
     dispatch(table, call)
 }
 
+// What a call does, but for the order of stamps that `perform` adds.
 fn dispatch<T: VersionTable>(table: &mut T, call: TableCall) -> Result<Answer, Refusal>
     ensures answer { told result ≡ call_answer (T.meaning table.old) call }
     ensures after { Step (T.meaning table.old) call (T.meaning table.new) }

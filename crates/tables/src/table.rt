@@ -7,7 +7,8 @@ ghost use Rattle.tables.specs.Table.{Table, Sound, Cleared, Inserted, Altered, C
 use words::{Ending, Refusal, Version};
 
 // For each cell a list of versions, newest first, and a number of free places. Cells are numbered
-// from 0. A refused call changes nothing; an accepted one changes one cell's list.
+// from 0. A refused call changes nothing; an accepted one changes one cell's list. Cell and stamp are two parameters
+// of each call, as users name them.
 pub trait VersionTable {
     // What a table means; each promise below is about the meanings at entry and at exit.
     ghost meaning: { Self → Table };

@@ -66,14 +66,11 @@ impl Refusal {
             _ => 0,
         }
     }
-}
 
-// The name of a refusal, without its detail.
-impl fmt::Display for Refusal {
-    ghost output = { λ e. Some (name e) };
-
-    fn fmt<W: fmt::Write>(&self, f: &mut fmt::Formatter<W>) -> fmt::Result {
-        f.write_str(match self {
+    pub fn name(self) -> &'static str
+        ensures { result.now ≡ name self }
+    {
+        match self {
             Refusal::NoWorker => "NO WORKER",
             Refusal::NoCell => "NO CELL",
             Refusal::OutOfTurn => "OUT OF TURN",
@@ -87,6 +84,15 @@ impl fmt::Display for Refusal {
             Refusal::ReadLater => "READ LATER",
             Refusal::BadTarget => "BAD TARGET",
             Refusal::BadLine(_) => "BAD LINE",
-        })
+        }
+    }
+}
+
+// The name, without the detail. `name` stands beside it, since a `Display` fails with its writer.
+impl fmt::Display for Refusal {
+    ghost output = { λ e. Some (name e) };
+
+    fn fmt<W: fmt::Write>(&self, f: &mut fmt::Formatter<W>) -> fmt::Result {
+        f.write_str(self.name())
     }
 }

@@ -24,6 +24,16 @@ impl Status {
     {
         self == Status::Pending
     }
+
+    pub fn name(self) -> &'static str
+        ensures { result.now ≡ name self }
+    {
+        match self {
+            Status::Pending => "pending",
+            Status::Committed => "committed",
+            Status::Aborted => "aborted",
+        }
+    }
 }
 
 // The number of a status in every promise: 0 pending, 1 committed, 2 aborted.
@@ -39,15 +49,12 @@ impl From<Status> for u64 {
     }
 }
 
+// The name; `name` stands beside it, since a `Display` fails with its writer.
 impl fmt::Display for Status {
     ghost output = { λ s. Some (name s) };
 
     fn fmt<W: fmt::Write>(&self, f: &mut fmt::Formatter<W>) -> fmt::Result {
-        f.write_str(match self {
-            Status::Pending => "pending",
-            Status::Committed => "committed",
-            Status::Aborted => "aborted",
-        })
+        f.write_str(self.name())
     }
 }
 

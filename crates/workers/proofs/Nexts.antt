@@ -12,8 +12,8 @@ use Rattle.rules.specs.declared.entry.ReadEntry.{ReadEntry}
 use Rattle.rules.specs.declared.entry.WriteEntry.{WriteEntry}
 use Rattle.rules.specs.Model.{sealed, Worker, at_stage}
 use Rattle.rules.specs.Search.{visible, search}
-use Rattle.rules.specs.Rules.{gone, to_install, to_stamp, to_check_read, to_check_write, step_write, step_read, steps, next_step}
-use Rattle.rules.specs.Turns.{Came, accept_by, deny_by, upon_by, pass_stamp, steps_left, one_on, install_by, stamp_by, check_by, install_step_by, stamp_step_by, check_step_by}
+use Rattle.rules.specs.Rules.{accept, deny, upon, gone, to_install, to_stamp, to_check_read, to_check_write, step_write, step_read, steps, next_step}
+use Rattle.rules.specs.Turns.{Came, pass_stamp, steps_left, one_on, install_by, stamp_by, check_by, install_step_by, stamp_step_by, check_step_by}
 use Rattle.rules.specs.Beneath.{for_step, step_calls, Steps}
 use Rattle.workers.specs.Shape.{read_checked, write_checked, step_by}
 use Rattle.workers.specs.declared.steps.Step.TheVariants.{Check}
@@ -37,13 +37,13 @@ module _ (t : Table) (w : ℕ) (x : Worker) (rs : List ReadEntry) (ws : List Wri
 
   -- one step more
   abbrev on : {A : Type 0} → A → Came A
-  on a = accept_by (steps_left rs ws k) a
+  on a = accept (steps_left rs ws k) a
 
   module _ (e : WriteEntry) (h : k < length ws) (is : e ≡ get_or ws k e) where
     next_install : next_step rs ws k ≡ to_install e
     next_install = rw (lt-ltb k (length ws) h) (ap (step_write to_install) (nth_at ws k e h ∙ ap Some (sym is)))
 
-    install_is : install_by t w pass ≡ upon_by (insert_answer t e.cell stamp) (pass, t.versions) (λ _. on (one_on x rs ws k, put t.versions e.cell (with_version (new_version stamp e.value) (t.versions e.cell))))
+    install_is : install_by t w pass ≡ upon (insert_answer t e.cell stamp) (pass, t.versions) (λ _. on (one_on x rs ws k, put t.versions e.cell (with_version (new_version stamp e.value) (t.versions e.cell))))
     install_is = ap (λ s. install_step_by s t w rs ws k pass) next_install
 
     pub not_installed : (u : Table) (r : Refusal) → refuse r ≡ insert_answer t e.cell stamp → u ≡ t → (refuse r, (pass, u.versions)) ≡ install_by t w pass
@@ -59,7 +59,7 @@ module _ (t : Table) (w : ℕ) (x : Worker) (rs : List ReadEntry) (ws : List Wri
     next_stamp : next_step rs ws k ≡ to_stamp e
     next_stamp = rw (le-ltb k (length ws) le, lt-ltb k (length ws + length rs) h) (ap (step_read to_stamp) (nth_at rs (k - length ws) e (omega arith) ∙ ap Some (sym is)))
 
-    stamp_is : stamp_by t w pass ≡ upon_by (gone (raise_answer t e.cell e.stamp)) (pass, t.versions) (λ _. on (one_on x rs ws k, put t.versions e.cell (at_stamp e.stamp (raised stamp) (t.versions e.cell))))
+    stamp_is : stamp_by t w pass ≡ upon (gone (raise_answer t e.cell e.stamp)) (pass, t.versions) (λ _. on (one_on x rs ws k, put t.versions e.cell (at_stamp e.stamp (raised stamp) (t.versions e.cell))))
     stamp_is = ap (λ s. stamp_step_by s t w rs ws k pass) next_stamp
 
     pub not_stamped : (u : Table) (r : Refusal) → refuse r ≡ gone (raise_answer t e.cell e.stamp) → u ≡ t → (refuse r, (pass, u.versions)) ≡ stamp_by t w pass
@@ -72,18 +72,18 @@ module _ (t : Table) (w : ℕ) (x : Worker) (rs : List ReadEntry) (ws : List Wri
     stamp_calls u a ok made = subst (λ calls. Steps t calls u) (sym (ap (for_step stamp) next_stamp)) (u, subst (λ o. Upon o (Altered t u e.cell e.stamp (raised stamp)) (u ≡ t)) (not_gone a _ ok) made, refl)
 
   check_read_is : (e : ReadEntry) → length ws + length rs ≤ k → k < length ws + 2 * length rs → e ≡ get_or rs (k - (length ws + length rs)) e
-      → check_by t w pass ≡ upon_by (read_checked e (search (visible stamp) t e.cell)) pass (λ _. on (one_on x rs ws k))
+      → check_by t w pass ≡ upon (read_checked e (search (visible stamp) t e.cell)) pass (λ _. on (one_on x rs ws k))
   check_read_is e le h is = ap (λ s. check_step_by s t w rs ws k pass) next ∙ by (search (visible stamp) t e.cell)
     where
       next : next_step rs ws k ≡ to_check_read e
       next = rw (le-ltb k (length ws) (omega arith), le-ltb k (length ws + length rs) le, lt-ltb k (length ws + 2 * length rs) h)
           (ap (step_read to_check_read) (nth_at rs (k - (length ws + length rs)) e (omega arith) ∙ ap Some (sym is)))
 
-      cases : (b : Bool) → cond b (on (one_on x rs ws k)) (deny_by Changed pass) ≡ upon_by (cond b (accepted (tt {0})) (refuse Changed)) pass (λ _. on (one_on x rs ws k))
+      cases : (b : Bool) → cond b (on (one_on x rs ws k)) (deny Changed pass) ≡ upon (cond b (accepted (tt {0})) (refuse Changed)) pass (λ _. on (one_on x rs ws k))
       cases true = refl
       cases false = refl
 
-      by : (o : Outcome Version) → upon_by o pass (λ v. cond (eqb v.write e.stamp) (on (one_on x rs ws k)) (deny_by Changed pass)) ≡ upon_by (read_checked e o) pass (λ _. on (one_on x rs ws k))
+      by : (o : Outcome Version) → upon o pass (λ v. cond (eqb v.write e.stamp) (on (one_on x rs ws k)) (deny Changed pass)) ≡ upon (read_checked e o) pass (λ _. on (one_on x rs ws k))
       by (accepted v) = cases (eqb v.write e.stamp)
       by (refused n d) = refl
 
@@ -94,18 +94,18 @@ module _ (t : Table) (w : ℕ) (x : Worker) (rs : List ReadEntry) (ws : List Wri
   read_lost e le h is r no' = rw (check_read_is e le h is, ← no') refl
 
   check_write_is : (e : WriteEntry) → length ws + 2 * length rs ≤ k → k < steps rs ws → e ≡ get_or ws (k - (length ws + 2 * length rs)) e
-      → check_by t w pass ≡ upon_by (write_checked stamp (search (visible stamp) t e.cell)) pass (λ _. on (one_on x rs ws k))
+      → check_by t w pass ≡ upon (write_checked stamp (search (visible stamp) t e.cell)) pass (λ _. on (one_on x rs ws k))
   check_write_is e le h is = ap (λ s. check_step_by s t w rs ws k pass) next ∙ by (search (visible stamp) t e.cell)
     where
       next : next_step rs ws k ≡ to_check_write e
       next = rw (le-ltb k (length ws) (omega arith), le-ltb k (length ws + length rs) (omega arith), le-ltb k (length ws + 2 * length rs) le, lt-ltb k (steps rs ws) h)
           (ap (step_write to_check_write) (nth_at ws (k - (length ws + 2 * length rs)) e (omega arith) ∙ ap Some (sym is)))
 
-      cases : (b : Bool) → cond b (deny_by ReadLater pass) (on (one_on x rs ws k)) ≡ upon_by (cond b (refuse ReadLater) (accepted (tt {0}))) pass (λ _. on (one_on x rs ws k))
+      cases : (b : Bool) → cond b (deny ReadLater pass) (on (one_on x rs ws k)) ≡ upon (cond b (refuse ReadLater) (accepted (tt {0}))) pass (λ _. on (one_on x rs ws k))
       cases true = refl
       cases false = refl
 
-      by : (o : Outcome Version) → upon_by o pass (λ v. cond (ltb stamp v.read) (deny_by ReadLater pass) (on (one_on x rs ws k))) ≡ upon_by (write_checked stamp o) pass (λ _. on (one_on x rs ws k))
+      by : (o : Outcome Version) → upon o pass (λ v. cond (ltb stamp v.read) (deny ReadLater pass) (on (one_on x rs ws k))) ≡ upon (write_checked stamp o) pass (λ _. on (one_on x rs ws k))
       by (accepted v) = cases (ltb stamp v.read)
       by (refused n d) = refl
 

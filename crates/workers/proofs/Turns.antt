@@ -1,14 +1,18 @@
 -- What the rules of an open pass come to, by what the searches of its sets tell.
-use Rattle.std.proofs.Common.{◌≡◌, ℕ, ◌+◌, ◌<◌, ◌≤◌, eqb, List, [], ◌∷◌, ◌++◌, length, get_or, set, Some, None, refl, arith, le-ltb, lt-ltb}
+use Rattle.std.proofs.Common.{◌≡◌, ℕ, ◌+◌, ◌<◌, ◌≤◌, eqb, List, [], ◌∷◌, ◌++◌, length, get_or, set, Some, None, Option, refl, arith, le-ltb, lt-ltb}
 use Rattle.std.specs.List.{position}
 use Rattle.words.specs.Outcome.{accepted, refuse}
 use Rattle.words.specs.declared.refusal.Refusal.TheVariants.{SetFull}
+use Rattle.words.specs.declared.version.Version.{Version}
+use Rattle.tables.specs.Table.{Table}
 use Rattle.rules.specs.declared.entry.ReadEntry.{ReadEntry}
 use Rattle.rules.specs.declared.entry.WriteEntry.{WriteEntry}
 use Rattle.rules.specs.Model.{open', Worker, at_stage}
-use Rattle.rules.specs.Sets.{find_write}
-use Rattle.rules.specs.Turns.{written_by}
-use Rattle.workers.specs.Shape.{known}
+use Rattle.rules.specs.Sets.{find_read, find_write}
+use Rattle.rules.specs.Search.{visible, search}
+use Rattle.rules.specs.Rules.{Came, read_known, read_written}
+use Rattle.rules.specs.Turns.{pass_stamp, read_by, read_new_by, written_by}
+use Rattle.workers.specs.Shape.{known, known_in}
 use Rattle.searches.proofs.Places.{place_none, place_holds, place_replaces}
 
 abbrev cell_of_write : WriteEntry → ℕ
@@ -40,3 +44,28 @@ module _ (rs : List ReadEntry) (ws : List WriteEntry) (c : ℕ) where
 
   pub known_none : position (λ (e : WriteEntry). eqb e.cell c) ws ≡ None → position (λ (e : ReadEntry). eqb e.cell c) rs ≡ None → None ≡ known c rs ws
   known_none no' none = rw (place_none cell_of_write c ws no', place_none cell_of_read c rs none) refl
+
+-- a read of an open pass
+module _ (x : Worker) (rs : List ReadEntry) (ws : List WriteEntry) (t : Table) (w c : ℕ) where
+  abbrev reader : Worker
+  reader = at_stage x (open' rs ws)
+
+  abbrev fresh : Came Worker
+  fresh = read_new_by c rs ws (search (visible (pass_stamp x w)) t c) reader
+
+  abbrev from_known : Option ℕ → Came Worker
+  from_known (Some v) = (accepted v, reader)
+  from_known None = fresh
+
+  read_is : read_by t w c reader ≡ from_known (known c rs ws)
+  read_is = by (find_write c ws) (find_read c rs)
+    where
+      by : (o : Option WriteEntry) (p : Option ReadEntry) → read_written o reader (read_known p reader fresh) ≡ from_known (known_in o p)
+      by (Some e) p = refl
+      by None (Some e) = refl
+      by None None = refl
+
+  -- where the cell is not known and the read set has room, the version that is found joins the read set
+  pub read_found : None ≡ known c rs ws → length rs < 16 → (v : Version) → accepted v ≡ search (visible (pass_stamp x w)) t c
+      → (accepted v.value, at_stage x (open' (rs ++ (record { cell = c; stamp = v.write; value = v.value } ∷ [])) ws)) ≡ read_by t w c reader
+  read_found none few v h = rw (read_is, ← none, le-ltb 15 (length rs) (omega arith), ← h) refl

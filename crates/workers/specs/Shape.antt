@@ -95,6 +95,7 @@ abbrev pub end_calls : Ending → ℕ → Worker → List TableCall
 end_calls Commit w x = commit_calls w x
 end_calls Abort w x = abort_calls w x
 
+-- the value of the write entry, else of the read entry
 abbrev pub known_in : Option WriteEntry → Option ReadEntry → Option ℕ
 known_in (Some e) o = Some e.value
 known_in None (Some e) = Some e.value

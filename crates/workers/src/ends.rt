@@ -33,7 +33,7 @@ impl Worker {
         ensures beneath { StepsUpon (T.meaning table.old) (told result) (end_calls call seat.number self.old) (T.meaning table.new) }
     {
         let steps = 2 * (self.writes.len() + self.reads.len());
-        let stamp = seat.stamp(self.last);
+        let stamp = self.stamp(seat);
         match (self.stage, call) {
             (Stage::Sealed(k), Ending::Commit) if k == steps => {
                 settle(table, self.writes.as_slice(), stamp, Ending::Commit);

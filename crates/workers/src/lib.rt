@@ -2,7 +2,7 @@
 // and to the table.
 //
 // A call is told the worker's seat, which is its number: a worker that kept it would have to promise in each
-// call that it stays. Stage and call are matched together, in place, as the rules say. Nothing here knows of
+// call that it stays. Stage and call are matched together, in place (docs/DECISIONS.md). Nothing here knows of
 // other workers.
 #![tactic(auto)]
 

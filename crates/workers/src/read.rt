@@ -42,7 +42,7 @@ impl Worker {
                 if self.reads.len() >= 16 {
                     return Err(Refusal::SetFull);
                 }
-                let stamp = seat.stamp(self.last);
+                let stamp = self.stamp(seat);
                 let version = search(table, cell as usize, Sought::Visible(stamp))?;
                 self.reads.push_reserved(ReadEntry {
                     cell,

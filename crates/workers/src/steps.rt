@@ -93,7 +93,7 @@ impl Worker {
         let w = self.writes.len();
         let r = self.reads.len();
         let steps = 2 * (w + r);
-        let stamp = seat.stamp(self.last);
+        let stamp = self.stamp(seat);
         match (self.stage, call) {
             (Stage::Sealed(k), Step::Install) if k < w => {
                 let entry = self.writes[k];

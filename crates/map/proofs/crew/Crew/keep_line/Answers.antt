@@ -1,4 +1,4 @@
-use Rattle.std.proofs.Common.{◌≡◌, ◌-◌, min, vec_items, ap, ◌∙◌, arith, rules}
+use Rattle.std.proofs.Common.{◌-◌, min, vec_items, ap, ◌∙◌, rules}
 use Rattle.rules.specs.Stamps.{least, look_floor}
 use Rattle.map.specs.Plate.{seated}
 use Rattle.map.proofs.Lowest.{least_used}
@@ -8,6 +8,5 @@ pub returns : goal.returns
 returns c t =
     let i = c.args.self.now in
     let f = c.floor-floor.result in
-    let z : i.count - 0 ≡ i.count = omega arith in
-    (simp (z, c.deref.ensures.value) at c.keep.ensures) ∙ ap (min f) (least_used (λ x w. look_floor x.stage f) i.count (vec_items i.workers) (search rules) (search rules)) ∙
+    (rw c.in_use.ensures at c.keep.ensures) ∙ ap (min f) (least_used (λ x w. look_floor x.stage f) i.count (vec_items i.workers) (search rules) (search rules)) ∙
     ap (λ f. min f (least (λ w. look_floor (seated (vec_items i.workers) w).stage f) (i.count - 1))) (c.floor-floor.ensures t)
