@@ -1,5 +1,6 @@
 -- The next step of a sealed pass, by how many are done, and what a step comes to.
 use Rattle.std.proofs.Common.{◌≡◌, ℕ, ◌+◌, ◌-◌, ◌*◌, ◌<◌, ◌≤◌, cond, eqb, ltb, Bool, true, false, List, length, get_or, Some, sym, refl, ap, ◌∙◌, subst, arith, le-ltb, lt-ltb}
+use Rattle.std.proofs.lemmas.Bool.Decides.{nat_tests}
 use Rattle.words.specs.Outcome.{Outcome, accepted, refused, refuse}
 use Rattle.words.specs.Version.{new_version}
 use Rattle.words.specs.declared.refusal.Refusal.{Refusal}
@@ -71,46 +72,38 @@ module _ (t : Table) (w : ℕ) (x : Worker) (rs : List ReadEntry) (ws : List Wri
     pub stamp_calls : (u : Table) (a : ℕ) → accepted a ≡ gone (raise_answer t e.cell e.stamp) → Altered t u e.cell e.stamp (raised stamp) → Steps t (step_calls w pass) u
     stamp_calls u a ok made = subst (λ calls. Steps t calls u) (sym (ap (for_step stamp) next_stamp)) (u, subst (λ o. Upon o (Altered t u e.cell e.stamp (raised stamp)) (u ≡ t)) (not_gone a _ ok) made, refl)
 
-  check_read_is : (e : ReadEntry) → length ws + length rs ≤ k → k < length ws + 2 * length rs → e ≡ get_or rs (k - (length ws + length rs)) e
-      → check_by t w pass ≡ upon (read_checked e (search (visible stamp) t e.cell)) pass (λ _. on (one_on x rs ws k))
-  check_read_is e le h is = ap (λ s. check_step_by s t w rs ws k pass) next ∙ by (search (visible stamp) t e.cell)
-    where
-      next : next_step rs ws k ≡ to_check_read e
-      next = rw (le-ltb k (length ws) (omega arith), le-ltb k (length ws + length rs) le, lt-ltb k (length ws + 2 * length rs) h)
-          (ap (step_read to_check_read) (nth_at rs (k - (length ws + length rs)) e (omega arith) ∙ ap Some (sym is)))
+  module _ (e : ReadEntry) (le : length ws + length rs ≤ k) (h : k < length ws + 2 * length rs) (is : e ≡ get_or rs (k - (length ws + length rs)) e) where
+    check_read_is : check_by t w pass ≡ upon (read_checked e (search (visible stamp) t e.cell)) pass (λ _. on (one_on x rs ws k))
+    check_read_is = ap (λ s. check_step_by s t w rs ws k pass) next ∙ by (search (visible stamp) t e.cell)
+      where
+        next : next_step rs ws k ≡ to_check_read e
+        next = rw (le-ltb k (length ws) (omega arith), le-ltb k (length ws + length rs) le, lt-ltb k (length ws + 2 * length rs) h)
+            (ap (step_read to_check_read) (nth_at rs (k - (length ws + length rs)) e (omega arith) ∙ ap Some (sym is)))
 
-      cases : (b : Bool) → cond b (on (one_on x rs ws k)) (deny Changed pass) ≡ upon (cond b (accepted (tt {0})) (refuse Changed)) pass (λ _. on (one_on x rs ws k))
-      cases true = refl
-      cases false = refl
+        by : (o : Outcome Version) → upon o pass (λ v. cond (eqb v.write e.stamp) (on (one_on x rs ws k)) (deny Changed pass)) ≡ upon (read_checked e o) pass (λ _. on (one_on x rs ws k))
+        by (accepted v) = grind (arith, nat_tests)
+        by (refused n d) = refl
 
-      by : (o : Outcome Version) → upon o pass (λ v. cond (eqb v.write e.stamp) (on (one_on x rs ws k)) (deny Changed pass)) ≡ upon (read_checked e o) pass (λ _. on (one_on x rs ws k))
-      by (accepted v) = cases (eqb v.write e.stamp)
-      by (refused n d) = refl
+    pub read_kept : accepted (tt {0}) ≡ read_checked e (search (visible stamp) t e.cell) → on (one_on x rs ws k, t.versions) ≡ step_by Check t w pass
+    read_kept ok = rw (check_read_is, ← ok) refl
 
-  pub read_kept : (e : ReadEntry) (le : length ws + length rs ≤ k) (h : k < length ws + 2 * length rs) (is : e ≡ get_or rs (k - (length ws + length rs)) e) → accepted (tt {0}) ≡ read_checked e (search (visible stamp) t e.cell) → on (one_on x rs ws k, t.versions) ≡ step_by Check t w pass
-  read_kept e le h is ok = rw (check_read_is e le h is, ← ok) refl
+    pub read_lost : (r : Refusal) → refuse r ≡ read_checked e (search (visible stamp) t e.cell) → (refuse r, (pass, t.versions)) ≡ step_by Check t w pass
+    read_lost r no' = rw (check_read_is, ← no') refl
 
-  pub read_lost : (e : ReadEntry) (le : length ws + length rs ≤ k) (h : k < length ws + 2 * length rs) (is : e ≡ get_or rs (k - (length ws + length rs)) e) (r : Refusal) → refuse r ≡ read_checked e (search (visible stamp) t e.cell) → (refuse r, (pass, t.versions)) ≡ step_by Check t w pass
-  read_lost e le h is r no' = rw (check_read_is e le h is, ← no') refl
+  module _ (e : WriteEntry) (le : length ws + 2 * length rs ≤ k) (h : k < steps rs ws) (is : e ≡ get_or ws (k - (length ws + 2 * length rs)) e) where
+    check_write_is : check_by t w pass ≡ upon (write_checked stamp (search (visible stamp) t e.cell)) pass (λ _. on (one_on x rs ws k))
+    check_write_is = ap (λ s. check_step_by s t w rs ws k pass) next ∙ by (search (visible stamp) t e.cell)
+      where
+        next : next_step rs ws k ≡ to_check_write e
+        next = rw (le-ltb k (length ws) (omega arith), le-ltb k (length ws + length rs) (omega arith), le-ltb k (length ws + 2 * length rs) le, lt-ltb k (steps rs ws) h)
+            (ap (step_write to_check_write) (nth_at ws (k - (length ws + 2 * length rs)) e (omega arith) ∙ ap Some (sym is)))
 
-  check_write_is : (e : WriteEntry) → length ws + 2 * length rs ≤ k → k < steps rs ws → e ≡ get_or ws (k - (length ws + 2 * length rs)) e
-      → check_by t w pass ≡ upon (write_checked stamp (search (visible stamp) t e.cell)) pass (λ _. on (one_on x rs ws k))
-  check_write_is e le h is = ap (λ s. check_step_by s t w rs ws k pass) next ∙ by (search (visible stamp) t e.cell)
-    where
-      next : next_step rs ws k ≡ to_check_write e
-      next = rw (le-ltb k (length ws) (omega arith), le-ltb k (length ws + length rs) (omega arith), le-ltb k (length ws + 2 * length rs) le, lt-ltb k (steps rs ws) h)
-          (ap (step_write to_check_write) (nth_at ws (k - (length ws + 2 * length rs)) e (omega arith) ∙ ap Some (sym is)))
+        by : (o : Outcome Version) → upon o pass (λ v. cond (ltb stamp v.read) (deny ReadLater pass) (on (one_on x rs ws k))) ≡ upon (write_checked stamp o) pass (λ _. on (one_on x rs ws k))
+        by (accepted v) = grind (arith, nat_tests)
+        by (refused n d) = refl
 
-      cases : (b : Bool) → cond b (deny ReadLater pass) (on (one_on x rs ws k)) ≡ upon (cond b (refuse ReadLater) (accepted (tt {0}))) pass (λ _. on (one_on x rs ws k))
-      cases true = refl
-      cases false = refl
+    pub write_kept : accepted (tt {0}) ≡ write_checked stamp (search (visible stamp) t e.cell) → on (one_on x rs ws k, t.versions) ≡ step_by Check t w pass
+    write_kept ok = rw (check_write_is, ← ok) refl
 
-      by : (o : Outcome Version) → upon o pass (λ v. cond (ltb stamp v.read) (deny ReadLater pass) (on (one_on x rs ws k))) ≡ upon (write_checked stamp o) pass (λ _. on (one_on x rs ws k))
-      by (accepted v) = cases (ltb stamp v.read)
-      by (refused n d) = refl
-
-  pub write_kept : (e : WriteEntry) (le : length ws + 2 * length rs ≤ k) (h : k < steps rs ws) (is : e ≡ get_or ws (k - (length ws + 2 * length rs)) e) → accepted (tt {0}) ≡ write_checked stamp (search (visible stamp) t e.cell) → on (one_on x rs ws k, t.versions) ≡ step_by Check t w pass
-  write_kept e le h is ok = rw (check_write_is e le h is, ← ok) refl
-
-  pub write_late : (e : WriteEntry) (le : length ws + 2 * length rs ≤ k) (h : k < steps rs ws) (is : e ≡ get_or ws (k - (length ws + 2 * length rs)) e) (r : Refusal) → refuse r ≡ write_checked stamp (search (visible stamp) t e.cell) → (refuse r, (pass, t.versions)) ≡ step_by Check t w pass
-  write_late e le h is r no' = rw (check_write_is e le h is, ← no') refl
+    pub write_late : (r : Refusal) → refuse r ≡ write_checked stamp (search (visible stamp) t e.cell) → (refuse r, (pass, t.versions)) ≡ step_by Check t w pass
+    write_late r no' = rw (check_write_is, ← no') refl

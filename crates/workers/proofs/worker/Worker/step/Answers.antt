@@ -14,26 +14,20 @@ returns-in_err-insert-in-Sealed-Install-clause-after g c =
     rw (told_exit c.from_residual.result _ c.from_residual.ensures.1, c.in-Sealed-Install.is-1, ← c.self.view_is, c.in-Sealed-Install.is-0)
     (not_installed t c.args.seat.number (shape x) (vec_items x.reads) (vec_items x.writes) c.in-Sealed-Install.k e (search rules) (search rules) (g.T.VersionTable.meaning c.insert.new.self) _ answer c.in_err-insert-in-Sealed-Install.ensures.after)
 
-pub returns-in_ok-insert-in-Sealed-Install-clause-after : goal.returns-in_ok-insert-in-Sealed-Install-clause-after
-returns-in_ok-insert-in-Sealed-Install-clause-after g c =
+pub returns-in_ok-insert-in-Sealed-Install : goal.returns-in_ok-insert-in-Sealed-Install
+returns-in_ok-insert-in-Sealed-Install g c =
     let x = c.self.inside in
     let t = g.T.VersionTable.meaning c.args.table.now in
     let e = c.index-entry.result.now in
     let answer = rw (c.stamp-stamp.ensures, ← c.self.view_is) at c.in_ok-insert-in-Sealed-Install.ensures.answer in
     let after = rw (c.stamp-stamp.ensures, ← c.self.view_is) at c.in_ok-insert-in-Sealed-Install.ensures.after in
     let left : c.go_on.result ≡ steps_left (vec_items x.reads) (vec_items x.writes) c.in-Sealed-Install.k = search rules in
-    rw (left, c.go_on.ensures.stage, c.in-Sealed-Install.is-1, ← c.self.view_is, c.in-Sealed-Install.is-0)
-    (installed t c.args.seat.number (shape x) (vec_items x.reads) (vec_items x.writes) c.in-Sealed-Install.k e (search rules) (search rules) (g.T.VersionTable.meaning c.insert.new.self) _ answer after)
-
-pub returns-in_ok-insert-in-Sealed-Install-clause-beneath : goal.returns-in_ok-insert-in-Sealed-Install-clause-beneath
-returns-in_ok-insert-in-Sealed-Install-clause-beneath g c =
-    let x = c.self.inside in
-    let t = g.T.VersionTable.meaning c.args.table.now in
-    let e = c.index-entry.result.now in
-    let answer = rw (c.stamp-stamp.ensures, ← c.self.view_is) at c.in_ok-insert-in-Sealed-Install.ensures.answer in
-    let after = rw (c.stamp-stamp.ensures, ← c.self.view_is) at c.in_ok-insert-in-Sealed-Install.ensures.after in
-    rw (c.in-Sealed-Install.is-1, ← c.self.view_is, c.in-Sealed-Install.is-0)
-    (install_calls t c.args.seat.number (shape x) (vec_items x.reads) (vec_items x.writes) c.in-Sealed-Install.k e (search rules) (search rules) (g.T.VersionTable.meaning c.insert.new.self) _ answer after)
+    record {
+      after = rw (left, c.go_on.ensures.stage, c.in-Sealed-Install.is-1, ← c.self.view_is, c.in-Sealed-Install.is-0)
+          (installed t c.args.seat.number (shape x) (vec_items x.reads) (vec_items x.writes) c.in-Sealed-Install.k e (search rules) (search rules) (g.T.VersionTable.meaning c.insert.new.self) _ answer after);
+      beneath = rw (c.in-Sealed-Install.is-1, ← c.self.view_is, c.in-Sealed-Install.is-0)
+          (install_calls t c.args.seat.number (shape x) (vec_items x.reads) (vec_items x.writes) c.in-Sealed-Install.k e (search rules) (search rules) (g.T.VersionTable.meaning c.insert.new.self) _ answer after);
+    }
 
 pub returns-in_err-raise-in-Sealed-Stamp-clause-after : goal.returns-in_err-raise-in-Sealed-Stamp-clause-after
 returns-in_err-raise-in-Sealed-Stamp-clause-after g c =
@@ -44,26 +38,20 @@ returns-in_err-raise-in-Sealed-Stamp-clause-after g c =
     rw (told_exit c.from_residual-in_err-raise-in-Sealed-Stamp.result _ c.from_residual-in_err-raise-in-Sealed-Stamp.ensures.1, c.in-Sealed-Stamp.is-1, ← c.self.view_is, c.in-Sealed-Stamp.is-0)
     (not_stamped t c.args.seat.number (shape x) (vec_items x.reads) (vec_items x.writes) c.in-Sealed-Stamp.k e (search rules) (search rules) (search rules) (g.T.VersionTable.meaning c.raise.new.table) _ answer c.in_err-raise-in-Sealed-Stamp.ensures.after)
 
-pub returns-in_ok-raise-in-Sealed-Stamp-clause-after : goal.returns-in_ok-raise-in-Sealed-Stamp-clause-after
-returns-in_ok-raise-in-Sealed-Stamp-clause-after g c =
+pub returns-in_ok-raise-in-Sealed-Stamp : goal.returns-in_ok-raise-in-Sealed-Stamp
+returns-in_ok-raise-in-Sealed-Stamp g c =
     let x = c.self.inside in
     let t = g.T.VersionTable.meaning c.args.table.now in
     let e = c.index.result.now in
     let answer = c.in_ok-raise-in-Sealed-Stamp.ensures.answer in
     let after = rw (c.stamp-stamp.ensures, ← c.self.view_is) at c.in_ok-raise-in-Sealed-Stamp.ensures.after in
     let left : c.go_on-in-Sealed-Stamp.result ≡ steps_left (vec_items x.reads) (vec_items x.writes) c.in-Sealed-Stamp.k = search rules in
-    rw (left, c.go_on-in-Sealed-Stamp.ensures.stage, c.in-Sealed-Stamp.is-1, ← c.self.view_is, c.in-Sealed-Stamp.is-0)
-    (stamped t c.args.seat.number (shape x) (vec_items x.reads) (vec_items x.writes) c.in-Sealed-Stamp.k e (search rules) (search rules) (search rules) (g.T.VersionTable.meaning c.raise.new.table) _ answer after)
-
-pub returns-in_ok-raise-in-Sealed-Stamp-clause-beneath : goal.returns-in_ok-raise-in-Sealed-Stamp-clause-beneath
-returns-in_ok-raise-in-Sealed-Stamp-clause-beneath g c =
-    let x = c.self.inside in
-    let t = g.T.VersionTable.meaning c.args.table.now in
-    let e = c.index.result.now in
-    let answer = c.in_ok-raise-in-Sealed-Stamp.ensures.answer in
-    let after = rw (c.stamp-stamp.ensures, ← c.self.view_is) at c.in_ok-raise-in-Sealed-Stamp.ensures.after in
-    rw (c.in-Sealed-Stamp.is-1, ← c.self.view_is, c.in-Sealed-Stamp.is-0)
-    (stamp_calls t c.args.seat.number (shape x) (vec_items x.reads) (vec_items x.writes) c.in-Sealed-Stamp.k e (search rules) (search rules) (search rules) (g.T.VersionTable.meaning c.raise.new.table) _ answer after)
+    record {
+      after = rw (left, c.go_on-in-Sealed-Stamp.ensures.stage, c.in-Sealed-Stamp.is-1, ← c.self.view_is, c.in-Sealed-Stamp.is-0)
+          (stamped t c.args.seat.number (shape x) (vec_items x.reads) (vec_items x.writes) c.in-Sealed-Stamp.k e (search rules) (search rules) (search rules) (g.T.VersionTable.meaning c.raise.new.table) _ answer after);
+      beneath = rw (c.in-Sealed-Stamp.is-1, ← c.self.view_is, c.in-Sealed-Stamp.is-0)
+          (stamp_calls t c.args.seat.number (shape x) (vec_items x.reads) (vec_items x.writes) c.in-Sealed-Stamp.k e (search rules) (search rules) (search rules) (g.T.VersionTable.meaning c.raise.new.table) _ answer after);
+    }
 
 pub returns-in_err-check_read-in-Sealed-Check-clause-after : goal.returns-in_err-check_read-in-Sealed-Check-clause-after
 returns-in_err-check_read-in-Sealed-Check-clause-after g c =
