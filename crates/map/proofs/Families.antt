@@ -5,19 +5,21 @@ use Rattle.words.specs.declared.refusal.Refusal.{Refusal}
 use Rattle.words.specs.declared.version.Version.{Version}
 use Rattle.tables.specs.Table.{Table, Cut, cut_answer}
 use Rattle.tables.specs.Calls.{Upon}
-use Rattle.rules.specs.declared.call.Call.TheVariants.{Read, Commit, Abort, Show, Collect}
+use Rattle.rules.specs.declared.call.Call.TheVariants.{Read, Write, Commit, Abort, Show, Collect}
 use Rattle.rules.specs.Model.{Worker, with_commits}
 use Rattle.rules.specs.Search.{newest, newest_below, search}
 use Rattle.rules.specs.Stamps.{keep_line}
 use Rattle.rules.specs.Rules.{with_a_worker, with_a_cell}
-use Rattle.rules.specs.Turns.{Came, Lists, at_worker, at_both, install_by, stamp_by, check_by, read_by, commit_by, abort_by, counting, one_more, in_place}
+use Rattle.rules.specs.Turns.{Came, Lists, at_worker, at_both, tick_by, begin_by, pulse_by, write_by, install_by, stamp_by, check_by, read_by, commit_by, abort_by, counting, one_more, in_place}
 use Rattle.rules.specs.Beneath.{Steps, StepsUpon, step_calls, commit_calls, abort_calls, cut_at}
+use Rattle.workers.specs.declared.clock.Tick.{Tick}
+use Rattle.workers.specs.declared.clock.Tick.TheVariants.{Begin as Begins, Pulse as Pulses}
 use Rattle.workers.specs.declared.steps.Step.{Step}
 use Rattle.workers.specs.declared.steps.Step.TheVariants.{Install as Installs, Stamp as Stamps, Check as Checks}
-use Rattle.workers.specs.Shape.{step_by, calls_for}
+use Rattle.workers.specs.Shape.{stage_after, step_by, calls_for}
 use Rattle.map.specs.declared.crew.Crew.{Crew}
 use Rattle.map.specs.Plate.{seated, plate}
-use Rattle.map.specs.Performed.{Performed, step_call}
+use Rattle.map.specs.Performed.{Performed, tick_call, step_call}
 use Rattle.map.proofs.Lift.{over, here, lifted, lifted_both, performed, none_beneath, upon_cells}
 
 -- the worker w of the map i was x and is y
@@ -29,6 +31,10 @@ module _ (t u : Table) (i : Crew) (w : ℕ) (x y : Worker) (within : w < i.count
   -- a call of the worker alone
   alone : (f : Worker → Came Worker) → (a, y) ≡ f x → (a, plate t j) ≡ at_worker (plate t i) w f
   alone f h = ap (λ m. (a, m)) (changed t) ∙ lifted t u xs i.count i.commits w x y within places is a f h
+
+  pub tick_performed : (call : Tick) (units : ℕ) → (a, y) ≡ tick_by (stage_after call) w units x → Performed t i (tick_call call w units) a t j
+  tick_performed Begins units h = performed t t i j _ a (alone (begin_by w units) h) (none_beneath t a)
+  tick_performed Pulses units h = performed t t i j _ a (alone (pulse_by w units) h) (none_beneath t a)
 
   both : (f : Worker → Came (Worker × Lists)) → u.cells ≡ t.cells → (a, (y, u.versions)) ≡ f x → (a, plate u j) ≡ at_both (plate t i) w f
   both f same h = ap (λ m. (a, m)) (changed u) ∙ lifted_both t u xs i.count i.commits w x y within places is a f same h
@@ -50,6 +56,9 @@ module _ (t u : Table) (i : Crew) (w : ℕ) (x y : Worker) (within : w < i.count
   module _ (c : ℕ) (there : c < t.cells) where
     at_cell : (f : Worker → Came Worker) → at_worker (plate t i) w f ≡ with_a_worker (plate t i) w (with_a_cell (plate t i) c (in_place (plate t i) w (f (seated xs w))))
     at_cell f = sym (rw (lt-ltb c t.cells there))
+
+    pub write_performed : (value : ℕ) → (a, y) ≡ write_by c value x → Performed t i (Write w c value) a t j
+    write_performed value h = performed t t i j _ a (alone (write_by c value) h ∙ at_cell (write_by c value)) (none_beneath t a)
 
     pub read_performed : (a, y) ≡ read_by t w c x → Performed t i (Read w c) a t j
     read_performed h = performed t t i j _ a (alone (read_by t w c) h ∙ at_cell (read_by t w c)) (none_beneath t a)

@@ -1,5 +1,5 @@
 -- A worker in memory as the worker of the rules.
-use Rattle.std.specs.Prelude.{ℕ, cond, ◌==◌, nat_lt, ◌<◌, ◌≤◌, ◌^◌, List, [], Some, None, vec_items, vec_len, vec_capacity, Option}
+use Rattle.std.specs.Prelude.{ℕ, cond, ◌==◌, nat_lt, ◌<◌, ◌≤◌, ◌^◌, List, [], length, Some, None, vec_items, vec_len, vec_capacity, Option}
 use Rattle.rules.specs.declared.entry.ReadEntry.{ReadEntry}
 use Rattle.rules.specs.declared.entry.WriteEntry.{WriteEntry}
 use Rattle.rules.specs.Sets.{find_read, find_write}
@@ -51,6 +51,20 @@ pub record InBounds (x : Inside) : Type 0 where
   pub writes : vec_len x.writes ≤ 16
   pub room_to_read : 16 ≤ vec_capacity x.reads
   pub room_to_write : 16 ≤ vec_capacity x.writes
+
+-- the sets of a pass hold at most 16 entries each
+abbrev pub Few : Stage → Type 0
+Few idle = Unit {0}
+Few (open' rs ws) = (length rs ≤ 16) × (length ws ≤ 16)
+Few (sealed rs ws k) = (length rs ≤ 16) × (length ws ≤ 16)
+Few (looking f) = Unit {0}
+
+-- what callers know of every worker: no clock passes 2^50 - 1, the boost is at most 10, and the sets are few
+pub record Bounded (x : Worker) : Type 0 where
+  pub clock : x.clock < 2 ^ 50
+  pub boost : x.boost ≤ 10
+  pub last : x.last < 2 ^ 50
+  pub sets : Few x.stage
 
 -- the stage that begin and pulse lead to
 abbrev pub stage_after : Tick → Stage

@@ -2,7 +2,7 @@
 ghost use Rattle.std.specs.Prelude.{◌≡◌};
 ghost use Rattle.words.specs.Outcome.{told, accepted};
 ghost use Rattle.rules.specs.Turns.{sync_by, tick_by, pass_stamp};
-ghost use Rattle.workers.specs.Shape.{stage_after};
+ghost use Rattle.workers.specs.Shape.{Bounded, stage_after};
 
 use crate::seat::Seat;
 use crate::stage::Stage;
@@ -24,7 +24,8 @@ pub enum Tick {
 impl Worker {
     // Adds the elapsed units to the clock and answers the new timestamp; begin opens a pass.
     pub fn tick(&mut self, seat: Seat, call: Tick, units: u64) -> Result<u64, Refusal>
-        ensures { (told result, self.new) ≡ tick_by (stage_after call) seat.number units self.old }
+        ensures after { (told result, self.new) ≡ tick_by (stage_after call) seat.number units self.old }
+        ensures bounds { Bounded self.old × Bounded self.new }
     {
         let clock = self.clock + units.min(LONGEST).max(1);
         let adjusted = (clock + self.boost).max(self.last + 1);
@@ -49,28 +50,32 @@ impl Worker {
 
     // What the clock reads.
     pub fn time(&self) -> Time
-        ensures { result.units ≡ self.now.clock }
+        ensures value { result.units ≡ self.now.clock }
+        ensures bounds { Bounded self.now }
     {
         Time { units: self.clock }
     }
 
     // The last adjusted clock.
     pub fn last(&self) -> Time
-        ensures { result.units ≡ self.now.last }
+        ensures value { result.units ≡ self.now.last }
+        ensures bounds { Bounded self.now }
     {
         Time { units: self.last }
     }
 
     // The timestamp of the pass that the worker runs: its last.
     pub fn stamp(&self, seat: Seat) -> u64
-        ensures { result ≡ pass_stamp self.now seat.number }
+        ensures value { result ≡ pass_stamp self.now seat.number }
+        ensures bounds { Bounded self.now }
     {
         seat.stamp(self.last)
     }
 
     // Brings the clock up to another's reading, and answers it.
     pub fn sync(&mut self, other: Time) -> u64
-        ensures { (accepted result, self.new) ≡ sync_by other.units self.old }
+        ensures after { (accepted result, self.new) ≡ sync_by other.units self.old }
+        ensures bounds { Bounded self.old × Bounded self.new }
     {
         self.clock = self.clock.max(other.units);
         self.clock

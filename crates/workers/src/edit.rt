@@ -1,7 +1,7 @@
 // write and seal: the calls of an open pass that need no table.
 ghost use Rattle.std.specs.Prelude.{◌≡◌};
 ghost use Rattle.words.specs.Outcome.{told};
-ghost use Rattle.workers.specs.Shape.{edited};
+ghost use Rattle.workers.specs.Shape.{Bounded, edited};
 
 use crate::stage::Stage;
 use crate::worker::Worker;
@@ -17,7 +17,8 @@ pub enum Edit {
 
 impl Worker {
     pub fn edit(&mut self, call: Edit) -> Result<u64, Refusal>
-        ensures { (told result, self.new) ≡ edited call self.old }
+        ensures after { (told result, self.new) ≡ edited call self.old }
+        ensures bounds { Bounded self.old × Bounded self.new }
     {
         match (self.stage, call) {
             // Replaces the entry for the cell or adds one.

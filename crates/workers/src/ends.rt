@@ -2,7 +2,7 @@
 ghost use Rattle.std.specs.Prelude.{◌≡◌};
 ghost use Rattle.words.specs.Outcome.{told};
 ghost use Rattle.rules.specs.Beneath.{marks, Steps, StepsUpon};
-ghost use Rattle.workers.specs.Shape.{end_by, end_calls};
+ghost use Rattle.workers.specs.Shape.{Bounded, end_by, end_calls};
 
 use crate::seat::Seat;
 use crate::stage::Stage;
@@ -31,6 +31,7 @@ impl Worker {
     ) -> Result<u64, Refusal>
         ensures after { (told result, (self.new, (T.meaning table.new).versions)) ≡ end_by call (T.meaning table.old) seat.number self.old }
         ensures beneath { StepsUpon (T.meaning table.old) (told result) (end_calls call seat.number self.old) (T.meaning table.new) }
+        ensures bounds { Bounded self.old × Bounded self.new }
     {
         let steps = 2 * (self.writes.len() + self.reads.len());
         let stamp = self.stamp(seat);

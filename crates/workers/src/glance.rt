@@ -1,7 +1,7 @@
 // look and close: the calls that open and end a look.
 ghost use Rattle.std.specs.Prelude.{◌≡◌};
 ghost use Rattle.words.specs.Outcome.{told};
-ghost use Rattle.workers.specs.Shape.{glanced, looking_from};
+ghost use Rattle.workers.specs.Shape.{Bounded, glanced, looking_from};
 
 use crate::stage::Stage;
 use crate::worker::Worker;
@@ -16,7 +16,8 @@ pub enum Glance {
 
 impl Worker {
     pub fn glance(&mut self, call: Glance) -> Result<u64, Refusal>
-        ensures { (told result, self.new) ≡ glanced call self.old }
+        ensures after { (told result, self.new) ≡ glanced call self.old }
+        ensures bounds { Bounded self.old × Bounded self.new }
     {
         match (self.stage, call) {
             (Stage::Idle, Glance::Look(floor)) => {
@@ -33,7 +34,8 @@ impl Worker {
 
     // The floor of the worker's look, if it looks.
     pub fn look_floor(&self) -> Option<u64>
-        ensures { result ≡ looking_from self.now.stage }
+        ensures value { result ≡ looking_from self.now.stage }
+        ensures bounds { Bounded self.now }
     {
         match self.stage {
             Stage::Looking(floor) => Some(floor),

@@ -2,7 +2,7 @@
 ghost use Rattle.std.specs.Prelude.{◌≡◌};
 ghost use Rattle.words.specs.Outcome.{told};
 ghost use Rattle.rules.specs.Turns.{read_by};
-ghost use Rattle.workers.specs.Shape.{known};
+ghost use Rattle.workers.specs.Shape.{Bounded, known};
 
 use crate::seat::Seat;
 use crate::stage::Stage;
@@ -32,7 +32,8 @@ impl Worker {
         seat: Seat,
         cell: u64,
     ) -> Result<u64, Refusal>
-        ensures { (told result, self.new) ≡ read_by (T.meaning table.now) seat.number cell self.old }
+        ensures after { (told result, self.new) ≡ read_by (T.meaning table.now) seat.number cell self.old }
+        ensures bounds { Bounded self.old × Bounded self.new }
     {
         match self.stage {
             Stage::Open => {

@@ -7,7 +7,7 @@ ghost use Rattle.tables.specs.Versions.{raised};
 ghost use Rattle.rules.specs.Beneath.{StepsUpon};
 ghost use Rattle.rules.specs.Rules.{gone};
 ghost use Rattle.rules.specs.Search.{visible, search};
-ghost use Rattle.workers.specs.Shape.{step_by, calls_for, read_checked, write_checked};
+ghost use Rattle.workers.specs.Shape.{Bounded, step_by, calls_for, read_checked, write_checked};
 ghost use Rattle.workers.specs.declared.stage.Stage.TheVariants.{Sealed};
 
 use crate::seat::Seat;
@@ -89,6 +89,7 @@ impl Worker {
     ) -> Result<u64, Refusal>
         ensures after { (told result, (self.new, (T.meaning table.new).versions)) ≡ step_by call (T.meaning table.old) seat.number self.old }
         ensures beneath { StepsUpon (T.meaning table.old) (told result) (calls_for call seat.number self.old) (T.meaning table.new) }
+        ensures bounds { Bounded self.old × Bounded self.new }
     {
         let w = self.writes.len();
         let r = self.reads.len();

@@ -14,7 +14,7 @@ loop-worker-preserved c =
     let x = c.worker-item.result in
     let here : x ≡ seated ws i = c.worker-item.is ∙ sym (seated_at ws i x c.loop-worker-test.true) in
     elim c.match-look_floor.branch [
-      | in-Some w ↦ keep_look ws b i x c.loop-worker.least w.in-Some.look _ here c.loop-worker.invariant (sym w.in-Some.ensures) (search rules)
+      | in-Some w ↦ keep_look ws b i x c.loop-worker.least w.in-Some.look _ here c.loop-worker.invariant (sym w.in-Some.ensures.value) (search rules)
       | in_default w ↦ keep_rest ws b i x c.loop-worker.least _ here c.loop-worker.invariant (search rules) (search rules)
     ]
 
