@@ -21,6 +21,14 @@ impl Row {
         Row { versions }
     }
 
+    // Makes the row the first one again, in its own memory.
+    pub(crate) fn clear(&mut self)
+        ensures { row_list self.new ≡ first_version ∷ [] }
+    {
+        self.versions.clear();
+        self.versions.push(Version::first());
+    }
+
     pub(crate) fn len(&self) -> usize
         ensures { result ≡ length (row_list self.now) }
     {

@@ -56,7 +56,9 @@ impl VersionTable for RowTable {
     ghost sound = { λ t. rows_sound t.rows };
 
     fn clear(&mut self) -> u64 {
-        *self = RowTable::new();
+        for row in self.rows.iter_mut() {
+            row.clear();
+        }
         0
     }
 
