@@ -78,6 +78,8 @@ impl<'b, T: VersionTable> VersionTable for SpareLayer<'b, T> {
         }
     }
 
+    // A hint: over the row table the call is just too large to be inlined without it.
+    #[inline]
     fn insert(&mut self, cell: usize, stamp: u64, value: u64) -> Result<u64, Refusal> {
         match self.spare(cell)? {
             Some(spare) if spare.write == stamp => Err(Refusal::StampTaken),
