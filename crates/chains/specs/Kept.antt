@@ -52,8 +52,8 @@ pub record Kept (s : Store) : Type 0 where
   pub sized : Sized s
 
 -- what stands in the trait's proof
-pub chained_sound : (s : Store) → Kept s → Sound (chained s)
-chained_sound s k = record { few = k.sized.few; sinking = k.sinking }
+pub chained_sound : (s : Store) → s.cells ≤ 1024 → Sinking s → Sound (chained s)
+chained_sound s few sinking = record { few = few; sinking = sinking }
 
 -- the free places of every cell are the records used that hold no version
 pub record SharedPlaces (used : ℕ) (t : Table) : Type 0 where

@@ -14,7 +14,7 @@ use words::{Ending, Refusal, Version};
 impl<'a> VersionTable for ChainTable<'a> {
     ghost meaning = { λ t. mean t.links };
 
-    ghost sound = { λ t. chained_sound (store t.links) t.kept };
+    ghost sound = { λ t. chained_sound (store t.links) t.kept.sized.few t.kept.sinking };
 
     fn clear(&mut self) -> u64
         ensures answer { result ≡ 0 }

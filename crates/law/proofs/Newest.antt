@@ -23,6 +23,10 @@ ops_leave (writes d v ∷ ops) a c = grind (arith, ops_leave ops a c)
 abbrev pub on : ℕ → List Pass → Option Pass
 on t ps = find (λ (p : Pass). p.stamp) t ps
 
+pub on_stamp : (t : ℕ) (ps : List Pass) (p : Pass) → on t ps ≡ Some p → p.stamp ≡ t
+on_stamp t [] p h = grind arith
+on_stamp t (q ∷ qs) p h = grind (arith, nat_tests, on_stamp t qs p)
+
 -- sorting and choosing, by stamps
 on_placed : (t : ℕ) (p : Pass) (qs : List Pass) → on t (placed p qs) ≡ cond (eqb p.stamp t) (Some p) (on t qs)
 on_placed t p [] = refl

@@ -1,14 +1,20 @@
 -- What the searches along a cell's list find, by stamps, where stamps fall.
-use Rattle.std.proofs.Common.{◌≡◌, ℕ, ◌<◌, ◌≤◌, Bool, true, false, cond, ltb, ◌⊎◌, List, [], ◌∷◌, length, Some, Option, refl, inl, inr, arith, ltb-true}
+use Rattle.std.proofs.Common.{◌≡◌, ℕ, ◌^◌, ◌<◌, ◌≤◌, Bool, true, false, cond, ltb, ◌⊎◌, List, [], ◌∷◌, length, Some, None, Option, refl, inl, inr, arith, ltb-true}
 use Rattle.std.proofs.lemmas.Bool.Decides.{nat_tests}
+use Rattle.std.proofs.lemmas.List.{take_all}
 use Rattle.words.specs.Outcome.{Outcome, accepted, refused, refuse}
 use Rattle.words.specs.declared.refusal.Refusal.TheVariants.{Wait}
 use Rattle.words.specs.declared.status.Status.{Status}
 use Rattle.words.specs.declared.status.Status.TheVariants.{Pending, Committed, Aborted}
 use Rattle.words.specs.declared.version.Version.{Version}
-use Rattle.tables.specs.Versions.{ordered, falls}
-use Rattle.rules.specs.Search.{by_status, visible, newest, newest_below}
+use Rattle.tables.specs.Versions.{top, ordered, sinks, falls}
+use Rattle.rules.specs.Search.{reach, by_status, visible, newest, newest_below}
 use Rattle.law.proofs.Under.{under}
+
+-- nothing stands under a stamp that is not below the first
+pub none_above : (n t : ℕ) (vs : List Version) → ordered ltb n vs ≡ true → n ≤ t → under t vs ≡ None
+none_above n t [] h le = refl
+none_above n t (v ∷ vs) h le = grind (arith, nat_tests, none_above v.write t vs)
 
 below_first : (n t : ℕ) (vs : List Version) (y : Version) → ordered ltb n vs ≡ true → under t vs ≡ Some y → t < n
 below_first n t [] y h e = grind arith
@@ -99,3 +105,7 @@ newest_bounded s (v ∷ vs) h = grind (arith, nat_tests, newest_bounded s vs, or
 pub length_bound : (n : ℕ) (vs : List Version) → ordered ltb n vs ≡ true → length vs ≤ n
 length_bound n [] h = omega arith
 length_bound n (v ∷ vs) h = let r = length_bound v.write vs (grind arith) in grind arith
+
+pub all_reached : (vs : List Version) → sinks vs ≡ true → falls vs ≡ true → reach vs ≡ vs
+all_reached [] low h = refl
+all_reached (v ∷ vs) low h = take_all (2 ^ 64) (v ∷ vs) (let r = length_bound v.write vs h in let z : v.write ≤ top = grind (arith, nat_tests) in omega arith)

@@ -11,6 +11,10 @@ use Rattle.rules.specs.Sets.{find}
 abbrev pub under : ℕ → List Version → Option Version
 under t vs = find (λ (v : Version). v.write) t vs
 
+pub under_write : (t : ℕ) (vs : List Version) (x : Version) → under t vs ≡ Some x → x.write ≡ t
+under_write t [] x h = grind arith
+under_write t (v ∷ vs) x h = grind (arith, nat_tests, under_write t vs x)
+
 -- insert
 pub under_with : (t : ℕ) (v : Version) (vs : List Version) → under t (with_version v vs) ≡ cond (eqb v.write t) (Some v) (under t vs)
 under_with t v [] = refl
