@@ -1,27 +1,18 @@
 -- Where a stamp stands in a list, or would stand, and what that tells of the calls.
-use Rattle.std.proofs.Common.{◌≡◌, ℕ, zero, suc, ◌+◌, ◌<◌, ◌≤◌, true, ◌&&◌, leb, ltb, eqb, List, [], ◌∷◌, length, get_or, set, position, is_some, Some, refl, ap, ◌∙◌, arith}
+use Rattle.std.proofs.Common.{◌≡◌, ℕ, suc, ◌+◌, ◌&&◌, leb, ltb, eqb, List, [], ◌∷◌, length, get_or, set, position, is_some, Some, refl, ap, ◌∙◌, arith}
 use Rattle.std.specs.List.{insert, prefix_len, position_or_len}
-use Rattle.std.specs.List.Sorted.{IsPartitionedBy}
+use Rattle.std.specs.Option.{unwrap_or}
 use Rattle.std.proofs.lemmas.Bool.Decides.{nat_tests}
 use Rattle.std.proofs.lemmas.Option.{cond_some}
 use Rattle.words.specs.Status.{pending}
 use Rattle.words.specs.declared.version.Version.{Version}
 use Rattle.words.specs.Version.{absent}
-use Rattle.tables.specs.Versions.{ordered, holds, holds_pending, with_version, at_stamp}
+use Rattle.tables.specs.Versions.{holds, holds_pending, with_version, at_stamp}
 
--- no stamp of a sinking list is above its bound
-below : (n : ℕ) (vs : List Version) → ordered leb n vs ≡ true → (j : ℕ) (d : Version) → j < length vs → (get_or vs j d).write ≤ n
-below n [] h j d l = absurd (omega arith)
-below n (v ∷ vs) h zero d l = grind (arith, nat_tests)
-below n (v ∷ vs) h (suc j) d l = grind (arith, nat_tests, below v.write vs)
-
--- in a sinking list those above a stamp stand in front
-pub sinks_parts : (s n : ℕ) (vs : List Version) → ordered leb n vs ≡ true → IsPartitionedBy (λ v. ltb s v.write) vs
-sinks_parts s n [] h i j d a l t = absurd (omega arith)
-sinks_parts s n (v ∷ vs) h zero zero d a l t = t
-sinks_parts s n (v ∷ vs) h zero (suc j) d a l t = grind (arith, nat_tests, below v.write vs)
-sinks_parts s n (v ∷ vs) h (suc i) zero d a l t = absurd (omega arith)
-sinks_parts s n (v ∷ vs) h (suc i) (suc j) d a l t = grind (arith, nat_tests, sinks_parts s v.write vs)
+-- the first that is not stamped above a stamp stands behind all that are, up to it
+pub first_is : (s : ℕ) (vs : List Version) → unwrap_or (position (λ v. leb v.write s) vs) (length vs) ≡ prefix_len (λ v. ltb s v.write) vs
+first_is s [] = refl
+first_is s (v ∷ vs) = grind (arith, nat_tests, first_is s vs)
 
 -- putting a version in by its stamp is putting it in behind those that are stamped above it
 pub with_version_is : (v : Version) (vs : List Version) → with_version v vs ≡ insert vs (prefix_len (λ w. ltb v.write w.write) vs) v
